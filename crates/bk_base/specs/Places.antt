@@ -1,0 +1,54 @@
+-- Configurations and addresses as numbers. A block has 64 bytes, eight words of 8 bytes.
+use Rattle.std.specs.Prelude.{◌≡◌, ℕ, ◌/◌, ◌%◌, ◌^◌, ◌<◌, Bool, ◌&&◌, ◌||◌, Option, Some, None, Result, Ok, Err, nat_lt, nat_le, ◌==◌, if◌then◌else◌, IsTrue}
+use Rattle.bk_base.specs.declared.config.BadConfig.{BadConfig}
+use Rattle.bk_base.specs.declared.config.BadConfig.TheVariants.{Caches, Sets, Ways}
+
+-- the numbers of a configuration
+pub record Shape : Type 0 where
+  pub caches : ℕ
+  pub sets : ℕ
+  pub ways : ℕ
+
+-- a power of two up to 64
+abbrev pub is_set_count : ℕ → Bool
+is_set_count n = n == 1 || n == 2 || n == 4 || n == 8 || n == 16 || n == 32 || n == 64
+
+-- a number from 1 to 8
+abbrev pub is_small_count : ℕ → Bool
+is_small_count n = nat_le 1 n && nat_le n 8
+
+-- the profile: 1 to 8 caches, a power of two up to 64 of sets, 1 to 8 ways
+pub record InProfile (s : Shape) : Type 0 where
+  pub caches : IsTrue (is_small_count s.caches)
+  pub sets : IsTrue (is_set_count s.sets)
+  pub ways : IsTrue (is_small_count s.ways)
+
+-- the configuration of three numbers, or the first of them that is outside the profile
+abbrev pub config_of : ℕ → ℕ → ℕ → Result Shape BadConfig
+config_of caches sets ways =
+    if is_small_count caches
+    then (if is_set_count sets
+    then (if is_small_count ways then Ok (record { caches = caches; sets = sets; ways = ways }) else Err Ways)
+    else Err Sets)
+    else Err Caches
+
+-- the number of an address: below 2^40, a multiple of 8
+pub record IsAddr (n : ℕ) : Type 0 where
+  pub below : n < 2 ^ 40
+  pub aligned : n % 8 ≡ 0
+
+abbrev pub addr_of : ℕ → Option ℕ
+addr_of n = if nat_lt n (2 ^ 40) && n % 8 == 0 then Some n else None
+
+abbrev pub block_of : ℕ → ℕ
+block_of addr = addr / 64
+
+-- the place of the word in its block
+abbrev pub word_of : ℕ → ℕ
+word_of addr = addr / 8 % 8
+
+abbrev pub set_of : Shape → ℕ → ℕ
+set_of s block = block % s.sets
+
+abbrev pub tag_of : Shape → ℕ → ℕ
+tag_of s block = block / s.sets

@@ -1,0 +1,83 @@
+ghost use Rattle.std.specs.Prelude.{◌≡◌, ◌<◌, ◌%◌, ◌^◌};
+ghost use Rattle.bk_base.specs.Places.{addr_of, block_of, word_of, set_of, tag_of, IsAddr};
+
+use crate::config::Config;
+use std::marker::Model;
+
+/// How many bytes a word has.
+const WORD_BYTES: u64 = 8;
+/// How many bytes a block has.
+const BLOCK_BYTES: u64 = 64;
+/// Addresses are below this.
+const ADDRESS_LIMIT: u64 = 0x100_0000_0000;
+
+/// The address of a word: a multiple of 8 below 2^40. Contracts see its number.
+#[derive(Clone, Copy, Debug, PartialEq, Eq)]
+pub struct Addr {
+    value: u64,
+}
+
+impl Model for Addr {
+    ghost use Rattle.std.specs.Prelude.{ℕ};
+    ghost use Rattle.bk_base.specs.Places.{IsAddr};
+
+    ghost Value = { ℕ };
+
+    ghost view = { λ a. a.value };
+
+    ghost invariant = { λ a. IsAddr a.value };
+
+    ghost inverse = { λ n. record { value = n } };
+}
+
+impl Addr {
+    /// The address with this number, or none where it is no multiple of 8 below 2^40.
+    pub fn make(value: u64) -> Option<Addr>
+        ensures { result ≡ addr_of value }
+    {
+        if value < ADDRESS_LIMIT && value % WORD_BYTES == 0 {
+            Some(Addr { value })
+        } else {
+            None
+        }
+    }
+
+    /// The number of the address.
+    pub fn value(self) -> u64
+        ensures value { result ≡ self }
+        ensures range { IsAddr self }
+    {
+        self.value
+    }
+}
+
+/// The block of an address: 64 bytes, counted from address 0. It is below 2^34.
+pub fn block_of(addr: Addr) -> u64
+    ensures value { result ≡ block_of addr }
+    ensures small { result < 2 ^ 34 }
+{
+    addr.value / BLOCK_BYTES
+}
+
+/// The place of an address's word in its block, 0 to 7.
+pub fn word_of(addr: Addr) -> u8
+    ensures value { result ≡ word_of addr }
+    ensures small { result < 8 }
+{
+    (addr.value / WORD_BYTES % 8) as u8
+}
+
+/// The set that a block belongs to, below the number of sets.
+pub fn set_of(config: Config, block: u64) -> u8
+    ensures value { result ≡ set_of config block }
+    ensures small { result < config.sets }
+{
+    (block % config.sets as u64) as u8
+}
+
+/// What tells a block from the others of its set.
+pub fn tag_of(config: Config, block: u64) -> u64
+    ensures { result ≡ tag_of config block }
+{
+    block / config.sets as u64
+}

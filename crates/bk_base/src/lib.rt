@@ -1,0 +1,12 @@
+//! Places, states and operations: the words that every other crate speaks in.
+#![tactic(auto)]
+
+mod addr;
+mod coh;
+mod config;
+mod op;
+
+pub use addr::{Addr, block_of, set_of, tag_of, word_of};
+pub use coh::Coh;
+pub use config::{BadConfig, Config};
+pub use op::{Done, Op};
