@@ -1,5 +1,5 @@
 -- Configurations and addresses as numbers. A block has 64 bytes, eight words of 8 bytes.
-use Rattle.std.specs.Prelude.{◌≡◌, ℕ, ◌/◌, ◌%◌, ◌^◌, ◌<◌, Bool, ◌&&◌, ◌||◌, Option, Some, None, Result, Ok, Err, nat_lt, nat_le, ◌==◌, if◌then◌else◌, IsTrue}
+use Rattle.std.specs.Prelude.{◌≡◌, ℕ, ◌*◌, ◌/◌, ◌%◌, ◌^◌, ◌<◌, Bool, ◌&&◌, ◌||◌, Option, Some, None, Result, Ok, Err, nat_lt, nat_le, ◌==◌, if◌then◌else◌, IsTrue}
 use Rattle.bk_base.specs.declared.config.BadConfig.{BadConfig}
 use Rattle.bk_base.specs.declared.config.BadConfig.TheVariants.{Caches, Sets, Ways}
 
@@ -42,6 +42,10 @@ addr_of n = if nat_lt n (2 ^ 40) && n % 8 == 0 then Some n else None
 
 abbrev pub block_of : ℕ → ℕ
 block_of addr = addr / 64
+
+-- the address of the first word of an address's block
+abbrev pub block_start : ℕ → ℕ
+block_start addr = block_of addr * 64
 
 -- the place of the word in its block
 abbrev pub word_of : ℕ → ℕ

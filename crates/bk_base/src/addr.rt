@@ -1,5 +1,5 @@
 ghost use Rattle.std.specs.Prelude.{◌≡◌, ◌<◌, ◌%◌, ◌^◌};
-ghost use Rattle.bk_base.specs.Places.{addr_of, block_of, word_of, set_of, tag_of, IsAddr};
+ghost use Rattle.bk_base.specs.Places.{addr_of, block_of, word_of, set_of, tag_of, block_start, IsAddr};
 
 use crate::config::Config;
 use std::marker::Model;
@@ -49,6 +49,15 @@ impl Addr {
     {
         self.value
     }
+
+    /// The address of the first word of the address's block.
+    pub fn block_start(self) -> Addr
+        ensures { result ≡ block_start self }
+    {
+        Addr {
+            value: self.value / BLOCK_BYTES * BLOCK_BYTES,
+        }
+    }
 }
 
 /// The block of an address: 64 bytes, counted from address 0. It is below 2^34.
@@ -67,10 +76,11 @@ pub fn word_of(addr: Addr) -> u8
     (addr.value / WORD_BYTES % 8) as u8
 }
 
-/// The set that a block belongs to, below the number of sets.
+/// The set that a block belongs to: its way group, below the number of sets, so below 64.
 pub fn set_of(config: Config, block: u64) -> u8
     ensures value { result ≡ set_of config block }
-    ensures small { result < config.sets }
+    ensures within { result < config.sets }
+    ensures small { result < 64 }
 {
     (block % config.sets as u64) as u8
 }

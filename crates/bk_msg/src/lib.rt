@@ -1,0 +1,6 @@
+//! The messages between caches, engine and memory.
+#![tactic(auto)]
+
+mod row;
+
+pub use row::{ENGINE, MEMORY, Network, Row};
