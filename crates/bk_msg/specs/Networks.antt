@@ -1,4 +1,4 @@
--- The network and the address of each kind of message.
+-- The network, the address and the receiver of each kind of message.
 use Rattle.std.specs.Prelude.{ℕ}
 use Rattle.bk_msg.specs.declared.row.Row.{Row}
 use Rattle.bk_msg.specs.declared.row.Row.TheVariants.{Rd, Wr, UcRd, UcWr, Evict, Inv, StWb, StTr, Blk, StWake, UcBlk, UcDone, Done, Fill, InvAck, CohAck, Wb, NullWb, Read, Write, WriteWord, Block}
@@ -53,3 +53,28 @@ address_of (Read _ _ addr) = addr
 address_of (Write _ _ addr _) = addr
 address_of (WriteWord _ _ addr _) = addr
 address_of (Block _ _ addr _) = addr
+
+-- who receives a message
+abbrev pub receiver_of : Row → ℕ
+receiver_of (Rd _ to _ _) = to
+receiver_of (Wr _ to _ _) = to
+receiver_of (UcRd _ to _) = to
+receiver_of (UcWr _ to _ _) = to
+receiver_of (Evict _ to _ _) = to
+receiver_of (Inv _ to _) = to
+receiver_of (StWb _ to _ _) = to
+receiver_of (StTr _ to _ _ _ _ _) = to
+receiver_of (Blk _ to _ _ _ _) = to
+receiver_of (StWake _ to _ _ _) = to
+receiver_of (UcBlk _ to _ _) = to
+receiver_of (UcDone _ to _) = to
+receiver_of (Done _ to _) = to
+receiver_of (Fill _ to _ _ _ _) = to
+receiver_of (InvAck _ to _) = to
+receiver_of (CohAck _ to _) = to
+receiver_of (Wb _ to _ _) = to
+receiver_of (NullWb _ to _) = to
+receiver_of (Read _ to _) = to
+receiver_of (Write _ to _ _) = to
+receiver_of (WriteWord _ to _ _) = to
+receiver_of (Block _ to _ _) = to

@@ -1,5 +1,5 @@
 ghost use Rattle.std.specs.Prelude.{◌≡◌};
-ghost use Rattle.bk_msg.specs.Networks.{network_of, address_of};
+ghost use Rattle.bk_msg.specs.Networks.{network_of, address_of, receiver_of};
 
 use bk_base::{Addr, Coh};
 
@@ -230,6 +230,36 @@ impl Row {
             Row::Write { addr, .. } => *addr,
             Row::WriteWord { addr, .. } => *addr,
             Row::Block { addr, .. } => *addr,
+        }
+    }
+
+    /// The number of who receives the message: a cache, the engine or the memory.
+    pub fn receiver(&self) -> u8
+        ensures { result ≡ receiver_of self.now }
+    {
+        match self {
+            Row::Rd { to, .. } => *to,
+            Row::Wr { to, .. } => *to,
+            Row::UcRd { to, .. } => *to,
+            Row::UcWr { to, .. } => *to,
+            Row::Evict { to, .. } => *to,
+            Row::Inv { to, .. } => *to,
+            Row::StWb { to, .. } => *to,
+            Row::StTr { to, .. } => *to,
+            Row::Blk { to, .. } => *to,
+            Row::StWake { to, .. } => *to,
+            Row::UcBlk { to, .. } => *to,
+            Row::UcDone { to, .. } => *to,
+            Row::Done { to, .. } => *to,
+            Row::Fill { to, .. } => *to,
+            Row::InvAck { to, .. } => *to,
+            Row::CohAck { to, .. } => *to,
+            Row::Wb { to, .. } => *to,
+            Row::NullWb { to, .. } => *to,
+            Row::Read { to, .. } => *to,
+            Row::Write { to, .. } => *to,
+            Row::WriteWord { to, .. } => *to,
+            Row::Block { to, .. } => *to,
         }
     }
 }

@@ -1,0 +1,65 @@
+//! `bedrock replay serial IMAGE TRACE`: runs an image of microcode over a trace, and prints the report.
+//! The exit code is the status of `bk_cmd`, and standard error tells of a fault.
+#![tactic(auto)]
+
+ghost use Rattle.std.specs.Prelude.{◌≡◌, ◌≢◌, IsTrue};
+ghost use Rattle.std.specs.IoError.{error_kind};
+ghost use Rattle.bk_cmd.specs.Outcomes.{is_status};
+
+use bk_cmd::{MEMORY, OK, Outcome, USAGE, fault_line, run_plain};
+use bk_outer::{FileShelf, StdSink};
+use std::alloc::Global;
+use std::env;
+use std::io::{self, ErrorKind};
+use std::process::ExitCode;
+
+/// The words of the command line without the program's name.
+fn words_of(rt: &HostRuntime) -> io::Result<Vec<String>> {
+    let mut words = Vec::new(rt.alloc());
+    for word in env::args(rt)?.skip(1) {
+        words.push(word)?;
+    }
+    Ok(words)
+}
+
+/// Words that are not UTF-8 are no command, and else there was no memory for them.
+fn no_words(alloc: Global, error: &io::Error) -> Outcome
+    ensures no_text { error_kind error.now ≡ ErrorKind.InvalidData → result.status ≡ USAGE }
+    ensures no_memory { error_kind error.now ≢ ErrorKind.InvalidData → result.status ≡ MEMORY }
+{
+    let status = match error.kind() {
+        ErrorKind::InvalidData => USAGE,
+        _ => MEMORY,
+    };
+    Outcome {
+        status,
+        file: 0,
+        at: 0,
+        column: 0,
+        kind: 0,
+        events: Vec::new(alloc),
+        written: 0,
+    }
+}
+
+/// How the command line ended, over the files and the output of the system.
+fn run(rt: &HostRuntime) -> Outcome
+    ensures { IsTrue (is_status result.status) }
+{
+    match words_of(rt) {
+        Ok(words) => {
+            let mut shelf = FileShelf::make(rt);
+            let mut sink = StdSink::make(rt);
+            run_plain(rt.alloc(), &words, &mut shelf, &mut sink)
+        }
+        Err(error) => no_words(rt.alloc(), &error),
+    }
+}
+
+fn main(rt: HostRuntime) -> ExitCode {
+    let outcome = run(&rt);
+    if outcome.status != OK {
+        let _ = eprintln!(rt; "{}", fault_line(&outcome));
+    }
+    ExitCode::from(outcome.status)
+}

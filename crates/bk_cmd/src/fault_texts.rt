@@ -1,0 +1,98 @@
+ghost use Rattle.std.specs.Prelude.{◌≡◌, ◌+◌, ◌≤◌, ◌<◌, ◌++◌, ◌∷◌, [], length};
+ghost use Rattle.std.specs.Fmt.{decimal};
+ghost use Rattle.arrayvec.specs.ArrayString.{array_string_len};
+ghost use Rattle.bk_cmd.specs.FaultTexts.{malformed_text, read_fault_text, fault_text};
+
+use crate::outcome::{MALFORMED, MEMORY, Outcome, READ_FAULT, SPENT, USAGE, WRITE_FAULT};
+use arrayvec::ArrayString;
+
+/// The most bytes that a line has. Its numbers have at most 20 digits.
+const LINE_BYTES: usize = 96;
+
+/// Appends a decimal digit.
+fn push_digit(line: &mut ArrayString<LINE_BYTES>, digit: u8)
+    requires digit { digit < 10 }
+    requires room { array_string_len line.old < 96 }
+    ensures { line.new.bytes ≡ line.old.bytes ++ (48 + digit) ∷ [] }
+{
+    line.push((b'0' + digit) as char);
+}
+
+/// Appends a number in decimal digits.
+fn push_decimal(line: &mut ArrayString<LINE_BYTES>, n: u64)
+    requires { array_string_len line.old + length (decimal n) ≤ 96 }
+    ensures { line.new.bytes ≡ line.old.bytes ++ decimal n }
+{
+    if n < 10 {
+        push_digit(line, n as u8);
+    } else {
+        push_decimal(line, n / 10);
+        push_digit(line, (n % 10) as u8);
+    }
+}
+
+/// Appends a number of up to 20 digits.
+fn push_number(line: &mut ArrayString<LINE_BYTES>, n: u64)
+    requires { array_string_len line.old + 20 ≤ 96 }
+    ensures bytes { line.new.bytes ≡ line.old.bytes ++ decimal n }
+    ensures length { array_string_len line.new ≤ array_string_len line.old + 20 }
+{
+    push_decimal(line, n);
+}
+
+/// Appends a number of up to 3 digits.
+fn push_small(line: &mut ArrayString<LINE_BYTES>, n: u8)
+    requires { array_string_len line.old + 3 ≤ 96 }
+    ensures bytes { line.new.bytes ≡ line.old.bytes ++ decimal n }
+    ensures length { array_string_len line.new ≤ array_string_len line.old + 3 }
+{
+    push_decimal(line, n as u64);
+}
+
+/// The line that is this text.
+fn line_of(text: &str) -> ArrayString<LINE_BYTES>
+    requires { length text.now ≤ 96 }
+    ensures bytes { result.bytes ≡ text.now }
+    ensures length { array_string_len result ≡ length text.now }
+{
+    let mut line = ArrayString::new();
+    line.push_str(text);
+    line
+}
+
+fn malformed_line(outcome: &Outcome) -> ArrayString<LINE_BYTES>
+    ensures { result.bytes ≡ malformed_text outcome.now }
+{
+    let mut line = line_of("bedrock: malformed file ");
+    push_small(&mut line, outcome.file);
+    line.push_str(" at ");
+    push_number(&mut line, outcome.at);
+    line.push_str(":");
+    push_number(&mut line, outcome.column);
+    line.push_str(" kind ");
+    push_small(&mut line, outcome.kind);
+    line
+}
+
+fn read_fault_line(outcome: &Outcome) -> ArrayString<LINE_BYTES>
+    ensures { result.bytes ≡ read_fault_text outcome.now }
+{
+    let mut line = line_of("bedrock: read fault file ");
+    push_small(&mut line, outcome.file);
+    line
+}
+
+/// What is told of an outcome, with no line's end: nothing at `OK`, and at what is no status.
+pub fn fault_line(outcome: &Outcome) -> ArrayString<LINE_BYTES>
+    ensures { result.bytes ≡ fault_text outcome.now }
+{
+    match outcome.status {
+        MEMORY => line_of("bedrock: memory"),
+        USAGE => line_of("bedrock: usage"),
+        MALFORMED => malformed_line(outcome),
+        READ_FAULT => read_fault_line(outcome),
+        WRITE_FAULT => line_of("bedrock: write fault"),
+        SPENT => line_of("bedrock: spent"),
+        _ => ArrayString::new(),
+    }
+}

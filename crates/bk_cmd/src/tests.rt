@@ -1,0 +1,232 @@
+use super::*;
+use bk_outer::{MemShelf, MemSink};
+use std::alloc::Global;
+use std::test::Fail;
+
+/// Serves requests that go past the caches, one at a time.
+const UNCACHED: [u8; 184] = [
+    0x42, 0x4b, 0x55, 0x43, 0x01, 0x00, 0x00, 0x00, 0x15, 0x00, 0x00, 0x00, 0x00, 0x00, 0x00, 0x00,
+    0x00, 0x00, 0x00, 0x00, 0x00, 0x00, 0x05, 0x50, 0x04, 0x00, 0x00, 0x00, 0x00, 0x02, 0x02, 0x25,
+    0x00, 0x00, 0x00, 0x00, 0x00, 0x00, 0x01, 0x51, 0x00, 0x00, 0x00, 0x00, 0x00, 0x00, 0x00, 0x20,
+    0x09, 0x00, 0x00, 0x00, 0x00, 0x01, 0x03, 0x25, 0x00, 0x00, 0x00, 0x00, 0x00, 0x00, 0x00, 0x52,
+    0x00, 0x00, 0x00, 0x00, 0x00, 0x00, 0x01, 0x50, 0x00, 0x00, 0x00, 0x00, 0x00, 0x00, 0x01, 0x51,
+    0x00, 0x00, 0x00, 0x00, 0x00, 0x00, 0x00, 0x20, 0x00, 0x00, 0x00, 0x00, 0x00, 0x00, 0x01, 0x51,
+    0x0f, 0x00, 0x00, 0x00, 0x00, 0x04, 0x04, 0x25, 0x00, 0x00, 0x00, 0x00, 0x00, 0x00, 0x00, 0x69,
+    0x00, 0x00, 0x00, 0x00, 0x00, 0x00, 0x00, 0x65, 0x00, 0x00, 0x00, 0x00, 0x00, 0x00, 0x00, 0x44,
+    0x00, 0x00, 0x00, 0x00, 0x00, 0x00, 0x00, 0x20, 0x00, 0x00, 0x00, 0x00, 0x00, 0x00, 0x00, 0x67,
+    0x00, 0x00, 0x00, 0x00, 0x00, 0x00, 0x02, 0x50, 0x00, 0x00, 0x00, 0x00, 0x00, 0x00, 0x00, 0x51,
+    0x00, 0x00, 0x00, 0x00, 0x00, 0x00, 0x00, 0x64, 0x00, 0x00, 0x00, 0x00, 0x00, 0x00, 0x00, 0x44,
+    0x00, 0x00, 0x00, 0x00, 0x00, 0x00, 0x00, 0x20,
+];
+
+/// One `nop`, behind which the engine is stuck.
+const NOP: [u8; 24] = [
+    0x42, 0x4b, 0x55, 0x43, 0x01, 0x00, 0x00, 0x00, 0x01, 0x00, 0x00, 0x00, 0x00, 0x00, 0x00, 0x00,
+    0x00, 0x00, 0x00, 0x00, 0x00, 0x00, 0x00, 0x00,
+];
+
+// A store past the cache, and a load of the same word by another cache.
+const TWO_OPERATIONS: &str = "config 2 4 2\n0 US 0x40 7\n1 UL 0x40\n";
+
+const TWO_OPERATIONS_REPORT: &str = "\
+0 US 0x40 7
+1 UL 0x40 = 7
+events issue 2 command 2 fill 0 memory 2 engine 31
+messages request 2 command 2 fill 0 response 2 memout 2 memin 1
+end rested
+";
+
+const EMPTY_REPORT: &str = "\
+events issue 0 command 0 fill 0 memory 0 engine 0
+messages request 0 command 0 fill 0 response 0 memout 0 memin 0
+end rested
+";
+
+/// The words `replay serial a.bk b.trace`.
+fn words(alloc: Global) -> Result<Vec<String>, Fail> {
+    let mut words = Vec::new(alloc);
+    for word in ["replay", "serial", "a.bk", "b.trace"] {
+        words.push(String::from_str(alloc, word)?)?;
+    }
+    Ok(words)
+}
+
+/// A shelf with the two files that the words name.
+fn shelf(alloc: Global, image: &[u8], trace: &str, failing: Vec<u64>) -> Result<MemShelf, Fail> {
+    let mut files = Vec::new(alloc);
+    files.push((String::from_str(alloc, "a.bk")?, image.to_vec(alloc)?))?;
+    files.push((
+        String::from_str(alloc, "b.trace")?,
+        trace.as_bytes().to_vec(alloc)?,
+    ))?;
+    Ok(MemShelf::make(alloc, files, failing))
+}
+
+/// A sink that never fails.
+fn sink(alloc: Global) -> MemSink {
+    MemSink::make(alloc, 4096, Vec::new(alloc))
+}
+
+fn numbers(outcome: &Outcome) -> [u64; 6] {
+    [
+        outcome.status as u64,
+        outcome.file as u64,
+        outcome.at,
+        outcome.column,
+        outcome.kind as u64,
+        outcome.written,
+    ]
+}
+
+#[test]
+fn two_operations(rt: HostRuntime) -> Result<(), Fail> {
+    let alloc = rt.alloc();
+    let mut shelf = shelf(alloc, &UNCACHED, TWO_OPERATIONS, Vec::new(alloc))?;
+    let mut sink = sink(alloc);
+    let outcome = run_plain(alloc, &words(alloc)?, &mut shelf, &mut sink);
+    assert_eq!(rt; numbers(&outcome), [OK as u64, 0, 0, 0, 0, 152]);
+    assert_eq!(rt; outcome.events.len(), 37);
+    assert!(rt; sink.bytes() == TWO_OPERATIONS_REPORT.as_bytes());
+    assert!(rt; fault_line(&outcome).as_str() == "");
+    Ok(())
+}
+
+#[test]
+fn no_operation(rt: HostRuntime) -> Result<(), Fail> {
+    let alloc = rt.alloc();
+    let mut shelf = shelf(alloc, &UNCACHED, "config 2 4 2", Vec::new(alloc))?;
+    let mut sink = sink(alloc);
+    let outcome = run_plain(alloc, &words(alloc)?, &mut shelf, &mut sink);
+    assert_eq!(rt; outcome.status, OK);
+    assert_eq!(rt; outcome.events.len(), 0);
+    assert!(rt; sink.bytes() == EMPTY_REPORT.as_bytes());
+    Ok(())
+}
+
+#[test]
+fn a_stuck_engine(rt: HostRuntime) -> Result<(), Fail> {
+    let alloc = rt.alloc();
+    let mut shelf = shelf(alloc, &NOP, "config 1 1 1", Vec::new(alloc))?;
+    let mut sink = sink(alloc);
+    let outcome = run_plain(alloc, &words(alloc)?, &mut shelf, &mut sink);
+    assert_eq!(rt; numbers(&outcome), [SPENT as u64, 0, 0, 0, 0, 0]);
+    assert_eq!(rt; outcome.events.len(), 1);
+    assert_eq!(rt; sink.bytes().len(), 0);
+    assert!(rt; fault_line(&outcome).as_str() == "bedrock: spent");
+    Ok(())
+}
+
+#[test]
+fn a_write_that_fails(rt: HostRuntime) -> Result<(), Fail> {
+    let alloc = rt.alloc();
+    let mut shelf = shelf(alloc, &UNCACHED, TWO_OPERATIONS, Vec::new(alloc))?;
+    let mut sink = MemSink::make(alloc, 50, vec![in alloc; 3]?);
+    let outcome = run_plain(alloc, &words(alloc)?, &mut shelf, &mut sink);
+    assert_eq!(rt; numbers(&outcome), [WRITE_FAULT as u64, 0, 0, 0, 0, 100]);
+    assert_eq!(rt; outcome.events.len(), 37);
+    assert!(rt; sink.bytes() == &TWO_OPERATIONS_REPORT.as_bytes()[..100]);
+    assert!(rt; fault_line(&outcome).as_str() == "bedrock: write fault");
+    Ok(())
+}
+
+#[test]
+fn no_words(rt: HostRuntime) -> Result<(), Fail> {
+    let alloc = rt.alloc();
+    let mut shelf = shelf(alloc, &UNCACHED, TWO_OPERATIONS, Vec::new(alloc))?;
+    let mut sink = sink(alloc);
+    let outcome = run_plain(alloc, &[], &mut shelf, &mut sink);
+    assert_eq!(rt; numbers(&outcome), [USAGE as u64, 0, 0, 0, 0, 0]);
+    assert!(rt; fault_line(&outcome).as_str() == "bedrock: usage");
+    Ok(())
+}
+
+#[test]
+fn a_reserved_field(rt: HostRuntime) -> Result<(), Fail> {
+    let alloc = rt.alloc();
+    let mut image = UNCACHED;
+    image[16] = 1;
+    let mut shelf = shelf(alloc, &image, TWO_OPERATIONS, Vec::new(alloc))?;
+    let mut sink = sink(alloc);
+    let outcome = run_plain(alloc, &words(alloc)?, &mut shelf, &mut sink);
+    assert_eq!(rt; numbers(&outcome), [MALFORMED as u64, 1, 16, 0, 8, 0]);
+    assert!(rt; fault_line(&outcome).as_str() == "bedrock: malformed file 1 at 16:0 kind 8");
+    Ok(())
+}
+
+#[test]
+fn an_instruction_that_is_not_built(rt: HostRuntime) -> Result<(), Fail> {
+    let alloc = rt.alloc();
+    let mut image = NOP;
+    // `rdw`
+    image[23] = 0x40;
+    let mut shelf = shelf(alloc, &image, TWO_OPERATIONS, Vec::new(alloc))?;
+    let mut sink = sink(alloc);
+    let outcome = run_plain(alloc, &words(alloc)?, &mut shelf, &mut sink);
+    assert_eq!(rt; numbers(&outcome), [MALFORMED as u64, 1, 16, 0, 0, 0]);
+    assert!(rt; fault_line(&outcome).as_str() == "bedrock: malformed file 1 at 16:0 kind 0");
+    Ok(())
+}
+
+#[test]
+fn a_cached_operation(rt: HostRuntime) -> Result<(), Fail> {
+    let alloc = rt.alloc();
+    let mut shelf = shelf(alloc, &UNCACHED, "config 1 1 1\n0 L 0x0", Vec::new(alloc))?;
+    let mut sink = sink(alloc);
+    let outcome = run_plain(alloc, &words(alloc)?, &mut shelf, &mut sink);
+    assert_eq!(rt; numbers(&outcome), [MALFORMED as u64, 2, 0, 0, 0, 0]);
+    assert!(rt; fault_line(&outcome).as_str() == "bedrock: malformed file 2 at 0:0 kind 0");
+    Ok(())
+}
+
+#[test]
+fn a_read_that_fails(rt: HostRuntime) -> Result<(), Fail> {
+    let alloc = rt.alloc();
+    let mut shelf = shelf(alloc, &UNCACHED, TWO_OPERATIONS, vec![in alloc; 2]?)?;
+    let mut sink = sink(alloc);
+    let outcome = run_plain(alloc, &words(alloc)?, &mut shelf, &mut sink);
+    assert_eq!(rt; numbers(&outcome), [READ_FAULT as u64, 2, 0, 0, 0, 0]);
+    assert!(rt; fault_line(&outcome).as_str() == "bedrock: read fault file 2");
+    Ok(())
+}
+
+#[test]
+fn no_image(rt: HostRuntime) -> Result<(), Fail> {
+    let alloc = rt.alloc();
+    let mut shelf = MemShelf::make(alloc, Vec::new(alloc), Vec::new(alloc));
+    let mut sink = sink(alloc);
+    let outcome = run_plain(alloc, &words(alloc)?, &mut shelf, &mut sink);
+    assert_eq!(rt; numbers(&outcome), [READ_FAULT as u64, 1, 0, 0, 0, 0]);
+    assert!(rt; fault_line(&outcome).as_str() == "bedrock: read fault file 1");
+    Ok(())
+}
+
+#[test]
+fn long_numbers(rt: HostRuntime) {
+    let outcome = Outcome {
+        status: MALFORMED,
+        file: 255,
+        at: u64::MAX,
+        column: u64::MAX,
+        kind: 255,
+        events: Vec::new(rt.alloc()),
+        written: 0,
+    };
+    assert!(rt;
+        fault_line(&outcome).as_str()
+            == "bedrock: malformed file 255 at 18446744073709551615:18446744073709551615 kind 255"
+    );
+}
+
+#[test]
+fn memory_is_told(rt: HostRuntime) {
+    let outcome = Outcome {
+        status: MEMORY,
+        file: 0,
+        at: 0,
+        column: 0,
+        kind: 0,
+        events: Vec::new(rt.alloc()),
+        written: 0,
+    };
+    assert!(rt; fault_line(&outcome).as_str() == "bedrock: memory");
+}

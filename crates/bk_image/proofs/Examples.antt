@@ -1,0 +1,75 @@
+-- Small images, read by computing.
+use Rattle.std.proofs.Common.{◌≡◌, ℕ, ◌+◌, List, [], ◌∷◌, ◌++◌, take, drop, Ok, Err, refl}
+use Rattle.bk_isa.specs.declared.form.Form.TheVariants.{Nop}
+use Rattle.bk_image.specs.Images.{Parts}
+use Rattle.bk_image.specs.Faults.{bad}
+use Rattle.bk_image.specs.declared.fault.Kind.TheVariants.{KnowLines, Magic, Version, ReservedByte, Count, TooMany, Opcode, WordField, WordReserved, Short, Trailing}
+use Rattle.bk_image.specs.Reading.{count_at, know_count_at, counts_at, header_at, word_at, words_at, image_at}
+use Rattle.bk_image.specs.Spelling.{spelling}
+
+-- an image of one word, whose eight bytes are given
+abbrev with_word : List ℕ → List ℕ
+with_word word = 66 ∷ 75 ∷ 85 ∷ 67 ∷ 1 ∷ 0 ∷ 0 ∷ 0 ∷ 1 ∷ 0 ∷ 0 ∷ 0 ∷ 0 ∷ 0 ∷ 0 ∷ 0 ∷ word
+
+abbrev one_nop : Parts
+one_nop = record { instrs = Nop ∷ [] }
+
+abbrev nop : List ℕ
+nop = with_word (0 ∷ 0 ∷ 0 ∷ 0 ∷ 0 ∷ 0 ∷ 0 ∷ 0 ∷ [])
+
+-- the image of one nop with another byte at a place
+abbrev changed : ℕ → ℕ → List ℕ
+changed at byte = take at nop ++ byte ∷ drop (at + 1) nop
+
+nop_is_read : image_at nop ≡ Ok one_nop
+unfolding image_at header_at counts_at count_at know_count_at word_at words_at
+nop_is_read = refl
+
+nop_is_spelled : spelling one_nop ≡ nop
+nop_is_spelled = refl
+
+-- the header
+record HeaderFaults : Type 0 where
+  other_magic : image_at (changed 3 68) ≡ Err (bad 0 Magic)
+  other_version : image_at (changed 4 2) ≡ Err (bad 4 Version)
+  second_reserved_byte : image_at (changed 6 1) ≡ Err (bad 6 ReservedByte)
+  no_instruction : image_at (changed 8 0) ≡ Err (bad 8 Count)
+  -- 257 instructions
+  too_many : image_at (changed 9 1) ≡ Err (bad 8 TooMany)
+  more_know_lines : image_at (changed 12 2) ≡ Err (bad 12 Count)
+  know_line : image_at (changed 12 1) ≡ Err (bad 12 KnowLines)
+
+header_faults : HeaderFaults
+unfolding image_at header_at counts_at count_at know_count_at word_at words_at
+header_faults = record { other_magic = refl; other_version = refl; second_reserved_byte = refl; no_instruction = refl; too_many = refl; more_know_lines = refl; know_line = refl }
+
+-- the word at byte 16, its opcode at byte 23
+record WordFaults : Type 0 where
+  no_opcode : image_at (changed 23 17) ≡ Err (bad 23 Opcode)
+  reserved_a : image_at (changed 22 1) ≡ Err (bad 22 WordReserved)
+  reserved_c : image_at (changed 20 1) ≡ Err (bad 20 WordReserved)
+  reserved_imm : image_at (changed 16 1) ≡ Err (bad 16 WordReserved)
+  -- the 32 bits are one field, which begins at their first byte
+  reserved_imm_high : image_at (changed 19 1) ≡ Err (bad 16 WordReserved)
+  -- `sf` of a fifth flag
+  no_flag : image_at (with_word (0 ∷ 0 ∷ 0 ∷ 0 ∷ 0 ∷ 0 ∷ 4 ∷ 48 ∷ [])) ≡ Err (bad 22 WordField)
+  -- `bk` on the summ, which it can't test
+  no_tested_field : image_at (with_word (0 ∷ 0 ∷ 0 ∷ 0 ∷ 0 ∷ 1 ∷ 5 ∷ 37 ∷ [])) ≡ Err (bad 22 WordField)
+  -- `bk` on the head with no values
+  empty_set : image_at (with_word (0 ∷ 0 ∷ 0 ∷ 0 ∷ 0 ∷ 0 ∷ 2 ∷ 37 ∷ [])) ≡ Err (bad 21 WordField)
+  -- `bi` to place 256
+  no_place : image_at (with_word (0 ∷ 1 ∷ 0 ∷ 0 ∷ 0 ∷ 0 ∷ 0 ∷ 32 ∷ [])) ≡ Err (bad 16 WordField)
+
+word_faults : WordFaults
+unfolding image_at header_at counts_at count_at know_count_at word_at words_at
+word_faults = record { no_opcode = refl; reserved_a = refl; reserved_c = refl; reserved_imm = refl; reserved_imm_high = refl; no_flag = refl; no_tested_field = refl; empty_set = refl; no_place = refl }
+
+-- the end
+record EndFaults : Type 0 where
+  empty : image_at [] ≡ Err (bad 0 Short)
+  short_word : image_at (take 23 nop) ≡ Err (bad 23 Short)
+  one_byte_more : image_at (nop ++ 0 ∷ []) ≡ Err (bad 24 Trailing)
+
+end_faults : EndFaults
+unfolding image_at header_at counts_at count_at know_count_at word_at words_at
+end_faults = record { empty = refl; short_word = refl; one_byte_more = refl }

@@ -1,0 +1,92 @@
+-- Reading an image from left to right, with the first fault that is met. The file has total bytes, and
+-- a reader answers a value and the bytes behind it.
+use Rattle.std.specs.Prelude.{ℕ, zero, suc, ◌+◌, ◌-◌, ◌==◌, nat_lt, List, [], ◌∷◌, length, take, drop, codes, Result, Ok, Err, if◌then◌else◌}
+use Rattle.std.specs.Int.{Width, w32, w64, byte_len, from_le_bytes}
+use Rattle.bk_isa.specs.declared.form.Form.{Form}
+use Rattle.bk_isa.specs.declared.fault.WordFault.{WordFault}
+use Rattle.bk_isa.specs.declared.fault.WordFault.TheVariants as words
+use Rattle.bk_isa.specs.Words.{decode}
+use Rattle.bk_image.specs.declared.fault.Kind.{Kind}
+use Rattle.bk_image.specs.declared.fault.Kind.TheVariants.{KnowLines, Magic, Version, ReservedByte, Count, TooMany, Opcode, WordField, WordReserved, Short, Trailing}
+use Rattle.bk_image.specs.Faults.{Bad, bad}
+use Rattle.bk_image.specs.Images.{Parts}
+
+infixl 10 ◌>>=◌
+abbrev pub ◌>>=◌ : {A B : Type 0} → Result A Bad → (A → Result B Bad) → Result B Bad
+(Ok x) >>= f = f x
+(Err e) >>= f = Err e
+
+-- a number, little-endian
+abbrev pub number_at : Width → ℕ → List ℕ → Result (ℕ × List ℕ) Bad
+number_at w total bytes = if nat_lt (length bytes) (byte_len w) then Err (bad total Short) else Ok (from_le_bytes w (take (byte_len w) bytes), drop (byte_len w) bytes)
+
+-- a byte that has to be a given one
+abbrev pub byte_at : ℕ → Kind → ℕ → List ℕ → Result (ℕ × List ℕ) Bad
+byte_at want kind total [] = Err (bad total Short)
+byte_at want kind total (b ∷ rest) = if b == want then Ok (b, rest) else Err (bad (total - length (b ∷ rest)) kind)
+
+-- the count of instructions, not 0 and at most 256
+unfoldable pub count_at : ℕ → List ℕ → Result (ℕ × List ℕ) Bad
+count_at total bytes = do
+  count ← number_at w32 total bytes
+  if count.0 == 0 then Err (bad (total - length bytes) Count) else if nat_lt 256 count.0 then Err (bad (total - length bytes) TooMany) else Ok count
+
+-- the count of know lines, at most that of instructions; none is read yet
+unfoldable pub know_count_at : ℕ → ℕ → List ℕ → Result (ℕ × List ℕ) Bad
+know_count_at count total bytes = do
+  knows ← number_at w32 total bytes
+  if nat_lt count knows.0 then Err (bad (total - length bytes) Count) else if knows.0 == 0 then Ok knows else Err (bad (total - length bytes) KnowLines)
+
+-- the version, three bytes 0 and the two counts: the count of instructions
+unfoldable pub counts_at : ℕ → List ℕ → Result (ℕ × List ℕ) Bad
+counts_at total bytes = do
+  version ← byte_at 1 Version total bytes
+  first ← byte_at 0 ReservedByte total version.1
+  second ← byte_at 0 ReservedByte total first.1
+  third ← byte_at 0 ReservedByte total second.1
+  count ← count_at total third.1
+  knows ← know_count_at count.0 total count.1
+  Ok (count.0, knows.1)
+
+abbrev pub magic_number : ℕ
+magic_number = from_le_bytes w32 (codes "BKUC")
+
+-- the magic and what stands before the words: the count of instructions
+unfoldable pub header_at : ℕ → List ℕ → Result (ℕ × List ℕ) Bad
+header_at total bytes = do
+  magic ← number_at w32 total bytes
+  if magic.0 == magic_number then counts_at total magic.1 else Err (bad (total - length bytes) Magic)
+
+-- where the field of a number begins in the word at a place: bytes 0 to 3 from the top, the last byte, and 4, the 32 bits that lie first
+abbrev pub byte_of : ℕ → ℕ → ℕ
+byte_of place number = if number == 4 then place else place + 7 - number
+
+abbrev pub word_fault : ℕ → WordFault → Bad
+word_fault place words.Opcode = bad (byte_of place 0) Opcode
+word_fault place (words.Field number) = bad (byte_of place number) WordField
+word_fault place (words.Reserved number) = bad (byte_of place number) WordReserved
+
+abbrev pub with_place : ℕ → Result Form WordFault → Result Form Bad
+with_place place (Ok f) = Ok f
+with_place place (Err e) = Err (word_fault place e)
+
+-- the instruction of the first eight bytes
+unfoldable pub word_at : ℕ → List ℕ → Result Form Bad
+word_at total bytes = do
+  word ← number_at w64 total bytes
+  with_place (total - length bytes) (decode word.0)
+
+-- as many instructions as the count says
+unfoldable pub words_at : ℕ → ℕ → List ℕ → Result (List Form × List ℕ) Bad
+words_at total zero bytes = Ok ([], bytes)
+words_at total (suc n) bytes = do
+  first ← word_at total bytes
+  others ← words_at total n (drop 8 bytes)
+  Ok (first ∷ others.0, others.1)
+
+-- the image that all of the bytes spell, or the first fault
+unfoldable pub image_at : List ℕ → Result Parts Bad
+image_at bytes = do
+  count ← header_at (length bytes) bytes
+  words ← words_at (length bytes) count.0 count.1
+  if length words.1 == 0 then Ok (record { instrs = words.0 }) else Err (bad (length bytes - length words.1) Trailing)

@@ -1,0 +1,6 @@
+pub mod Admitted
+pub mod Forms
+pub mod Operands
+pub mod Operations
+pub mod States
+pub mod Words

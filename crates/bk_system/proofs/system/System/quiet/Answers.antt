@@ -1,0 +1,19 @@
+use Rattle.std.proofs.Common.{ℕ, ap, refl, ◌∙◌}
+use Rattle.bk_system.specs.Channels.{queue, channel_count}
+use Rattle.bk_system.specs.Counting.{all_below, is_nil}
+use Rattle.bk_system.specs.Systems.{state_of}
+use Rattle.bk_system.proofs.Below.{all_below-squares}
+use Rattle.bk_system.proofs.EventRows.{quiet-of}
+use Rattle.bk_system.proofs.system.System.quiet.Goals as goal
+
+pub returns : goal.returns
+returns c =
+    let y = c.args.self.now in
+    let requests = c.is_empty.ensures ∙ ap (λ (n : ℕ). all_below n (λ k. is_nil (queue y.requests k))) y.requests_each in
+    let commands = c.is_empty-2.ensures ∙ ap (λ (n : ℕ). all_below n (λ k. is_nil (queue y.commands k))) y.commands_each in
+    let responses = c.is_empty-3.ensures ∙ ap (λ (n : ℕ). all_below n (λ k. is_nil (queue y.responses k))) y.responses_each in
+    rw (c.both.ensures, c.both-empty-4.ensures, c.both-empty-3.ensures, c.both-empty-2.ensures, c.both-empty.ensures)
+    (quiet-of y.config c.args.program.now (state_of y) c.is_empty.result c.is_empty-2.result c.is_empty-3.result c.is_empty-4.result c.is_empty-5.result c.is_wait.result
+    (channel_count y.memout) (channel_count y.memin) (λ k. is_nil (queue y.memout k)) (λ k. is_nil (queue y.memin k))
+    requests commands responses (all_below-squares y.config.caches y.config.caches)
+    c.is_empty-4.ensures y.memout_one refl c.is_empty-5.ensures y.memin_one refl c.is_wait.ensures)

@@ -1,0 +1,160 @@
+ghost use Rattle.std.specs.Prelude.{◌≡◌, ◌++◌, OnOk, IfOk, flat_map, string_bytes};
+ghost use Rattle.bk_system.specs.Report.{done_text, events_text, messages_text, end_text};
+
+use crate::counts::Counts;
+use bk_base::{Done, Op};
+use std::alloc::{AllocError, Global};
+
+// Each function fails only where memory runs out; `out` may then hold a part of its text.
+
+/// Writes a line of the history.
+pub(crate) fn push_done(out: &mut String, done: &Done) -> Result<(), AllocError>
+    ensures { OnOk result (string_bytes out.new ≡ string_bytes out.old ++ done_text done.now) }
+{
+    let cache = done.cache;
+    let answer = done.answer;
+    match done.op {
+        Op::Load(addr) => writeln!(out, "{cache} L 0x{:x} = {answer}", addr.value()),
+        Op::Store(addr, value) => writeln!(out, "{cache} S 0x{:x} {value}", addr.value()),
+        Op::UcLoad(addr) => writeln!(out, "{cache} UL 0x{:x} = {answer}", addr.value()),
+        Op::UcStore(addr, value) => writeln!(out, "{cache} US 0x{:x} {value}", addr.value()),
+        Op::Evict(addr) => writeln!(out, "{cache} EV 0x{:x}", addr.value()),
+    }
+}
+
+/// Writes the lines of the history, the oldest first.
+pub(crate) fn push_history(out: &mut String, history: &[Done]) -> Result<(), AllocError>
+    ensures { OnOk result (string_bytes out.new ≡ string_bytes out.old ++ flat_map done_text history.now) }
+{
+    for done in history {
+        push_done(out, done)?;
+    }
+    Ok(())
+}
+
+/// Writes the counts of events.
+pub(crate) fn push_events(out: &mut String, counts: &Counts) -> Result<(), AllocError>
+    ensures { OnOk result (string_bytes out.new ≡ string_bytes out.old ++ events_text counts.now) }
+{
+    let Counts {
+        issue,
+        command,
+        fill,
+        memory,
+        engine,
+        ..
+    } = counts;
+    writeln!(
+        out,
+        "events issue {issue} command {command} fill {fill} memory {memory} engine {engine}"
+    )
+}
+
+/// Writes the counts of messages.
+pub(crate) fn push_messages(out: &mut String, counts: &Counts) -> Result<(), AllocError>
+    ensures { OnOk result (string_bytes out.new ≡ string_bytes out.old ++ messages_text counts.now) }
+{
+    let Counts {
+        requests,
+        commands,
+        fills,
+        responses,
+        memouts,
+        memins,
+        ..
+    } = counts;
+    write!(
+        out,
+        "messages request {requests} command {commands} fill {fills}"
+    )?;
+    writeln!(out, " response {responses} memout {memouts} memin {memins}")
+}
+
+/// Writes how the list of events has ended.
+pub(crate) fn push_end(out: &mut String, complete: bool) -> Result<(), AllocError>
+    ensures { OnOk result (string_bytes out.new ≡ string_bytes out.old ++ end_text complete) }
+{
+    out.push_str(if complete {
+        "end rested\n"
+    } else {
+        "end unrested\n"
+    })
+}
+
+/// The report of a history and its counts, while no cache holds an entry. Fails only where memory runs out.
+pub(crate) fn report_bytes(
+    alloc: Global,
+    history: &[Done],
+    counts: &Counts,
+    complete: bool,
+) -> Result<Vec<u8>, AllocError>
+    ensures { IfOk result (λ v. v.items ≡ flat_map done_text history.now ++ events_text counts.now ++ messages_text counts.now ++ end_text complete) }
+{
+    let mut out = String::new(alloc);
+    push_history(&mut out, history)?;
+    push_events(&mut out, counts)?;
+    push_messages(&mut out, counts)?;
+    push_end(&mut out, complete)?;
+    Ok(out.into_bytes())
+}
+
+#[cfg(test)]
+mod tests {
+    use super::*;
+    use bk_base::Addr;
+    use std::test::Fail;
+
+    const REPORT: &str = "0 L 0x40 = 18446744073709551615\n\
+        1 S 0xfffffffff8 7\n\
+        2 UL 0x0 = 10\n\
+        3 US 0x48 0\n\
+        7 EV 0x40\n\
+        events issue 1 command 2 fill 30 memory 0 engine 400\n\
+        messages request 5 command 6 fill 7 response 8 memout 9 memin 10\n\
+        end unrested\n";
+
+    #[test]
+    fn all_operations(rt: HostRuntime) -> Result<(), Fail> {
+        let zero = Addr::make(0).ok_or("no address")?;
+        let low = Addr::make(0x40).ok_or("no address")?;
+        let next = Addr::make(0x48).ok_or("no address")?;
+        let high = Addr::make(0xff_ffff_fff8).ok_or("no address")?;
+        let history = [
+            done(0, Op::Load(low), u64::MAX),
+            done(1, Op::Store(high, 7), 0),
+            done(2, Op::UcLoad(zero), 10),
+            done(3, Op::UcStore(next, 0), 0),
+            done(7, Op::Evict(low), 0),
+        ];
+        let counts = Counts {
+            issue: 1,
+            command: 2,
+            fill: 30,
+            memory: 0,
+            engine: 400,
+            requests: 5,
+            commands: 6,
+            fills: 7,
+            responses: 8,
+            memouts: 9,
+            memins: 10,
+        };
+        let bytes = report_bytes(rt.alloc(), &history, &counts, false)?;
+        assert_eq!(rt; bytes.as_slice(), REPORT.as_bytes());
+        Ok(())
+    }
+
+    #[test]
+    fn nothing_at_rest(rt: HostRuntime) -> Result<(), Fail> {
+        let bytes = report_bytes(rt.alloc(), &[], &Counts::new(), true)?;
+        let text = "events issue 0 command 0 fill 0 memory 0 engine 0\n\
+            messages request 0 command 0 fill 0 response 0 memout 0 memin 0\n\
+            end rested\n";
+        assert_eq!(rt; bytes.as_slice(), text.as_bytes());
+        Ok(())
+    }
+
+    fn done(cache: u8, op: Op, answer: u64) -> Done {
+        Done { cache, op, answer }
+    }
+}

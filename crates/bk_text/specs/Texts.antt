@@ -1,0 +1,45 @@
+-- Texts of lines, words and numbers, as lists of bytes.
+use Rattle.std.specs.Prelude.{ℕ, ◌^◌, Bool, ◌&&◌, ◌||◌, List, ◌∷◌, length, map, Option, Some, None, nat_lt, nat_le, ◌==◌, if◌then◌else◌}
+use Rattle.std.specs.Char.{digit_value}
+use Rattle.std.specs.List.{slice_split, before_first, filter, list_all}
+use Rattle.std.specs.Str.Lines.{lines}
+use Rattle.std.specs.Str.Parse.{digits_value}
+
+-- a tab or printable ASCII
+abbrev pub is_text_byte : ℕ → Bool
+is_text_byte b = b == 9 || (nat_le 32 b && nat_le b 126)
+
+-- each byte of each line is one of a text
+abbrev pub is_text : List ℕ → Bool
+is_text bytes = list_all (λ line. list_all is_text_byte line) (lines bytes)
+
+-- a space or a tab
+abbrev pub is_blank : ℕ → Bool
+is_blank b = b == 32 || b == 9
+
+-- what stands before the first `#`
+abbrev pub before_comment : List ℕ → List ℕ
+before_comment line = before_first (λ b. b == 35) line
+
+-- the words of a line, up to its comment
+abbrev pub words_of : List ℕ → List (List ℕ)
+words_of line = filter (λ word. nat_lt 0 (length word)) (slice_split is_blank (before_comment line))
+
+-- the words of each line that has some
+abbrev pub rows_of : List ℕ → List (List (List ℕ))
+rows_of bytes = filter (λ row. nat_lt 0 (length row)) (map words_of (lines bytes))
+
+abbrev pub is_digit : ℕ → ℕ → Bool
+is_digit radix b = nat_lt (digit_value b) radix
+
+-- the number of 1 to `most` digits, if it is below 2^64
+unfoldable pub digits_number : ℕ → ℕ → List ℕ → Option ℕ
+digits_number radix most digits =
+    if nat_le 1 (length digits) && nat_le (length digits) most && list_all (is_digit radix) digits && nat_lt (digits_value radix digits) (2 ^ 64)
+    then Some (digits_value radix digits)
+    else None
+
+-- 1 to 20 decimal digits, or `0x` and 1 to 16 hexadecimal ones
+abbrev pub number_of : List ℕ → Option ℕ
+number_of (a ∷ b ∷ digits) = if a == 48 && b == 120 then digits_number 16 16 digits else digits_number 10 20 (a ∷ b ∷ digits)
+number_of digits = digits_number 10 20 digits
