@@ -104,9 +104,8 @@ fn first_command(system: &System, program: &[Instr]) -> Option<Event>
     None
 }
 
-/// The least enabled event of the greedy order: Issue by cache; Engine, first with class 0, then responses,
-/// memory and requests, each by source; Command by cache; Fill; Memory. None where none of them is enabled.
-pub fn least_enabled(system: &System, program: &[Instr], trace: &Trace) -> Option<Event>
+/// The least enabled event of the greedy order.
+pub(crate) fn least_of(system: &System, program: &[Instr], trace: &Trace) -> Option<Event>
     requires { trace.now.config ≡ system.now.config }
     ensures { result ≡ least_enabled system.now.config program.now (state_of system.now) trace.now.lines }
 {

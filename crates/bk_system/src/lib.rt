@@ -1,6 +1,7 @@
 //! The whole system: its events, its runs and their reports.
 #![tactic(auto)]
 
+mod bounds;
 mod channels;
 mod complete;
 mod counts;
@@ -16,7 +17,9 @@ mod uncached;
 
 pub use counts::Counts;
 pub use event::{Access, Completion, Event, Group, Stepped};
-pub use greedy::least_enabled;
 pub use reports::report;
 pub use runs::{RunEnd, SerialFault, budget, serial};
 pub use system::System;
+
+#[cfg(test)]
+mod tests;

@@ -7,7 +7,6 @@ ghost use Rattle.bk_system.specs.Systems.{state_of};
 
 use crate::complete::is_done;
 use crate::event::Event;
-use crate::greedy::least_enabled;
 use crate::system::System;
 use bk_base::Config;
 use bk_image::Image;
@@ -62,7 +61,7 @@ fn make_events(
     let mut system = System::make(alloc, trace.config())?;
     let mut events = Vec::new(alloc);
     for _ in 0..budget {
-        let Some(event) = least_enabled(&system, program, trace) else {
+        let Some(event) = system.least_enabled(program, trace) else {
             return Ok(Made { system, events });
         };
         match system.happen(program, &event) {
@@ -98,7 +97,7 @@ pub fn serial(
         Ok(complete) => complete,
         Err(_) => return Err(SerialFault::Memory),
     };
-    match least_enabled(&system, program, trace) {
+    match system.least_enabled(program, trace) {
         None => Ok(RunEnd { events, complete }),
         Some(_) => Err(SerialFault::Spent(RunEnd { events, complete })),
     }

@@ -5,21 +5,21 @@ ghost use Rattle.bk_system.specs.Channels.{channel_count};
 ghost use Rattle.bk_system.specs.Counting.{all_below};
 ghost use Rattle.bk_system.specs.Kept.{AreCounts};
 
+use crate::bounds::{both, cache_count, has_cache, has_way, set_count};
 use crate::channels::Channels;
 use crate::engine_channels::{
     REQUESTS, RESPONSES, is_choice, is_wait, names_requests, note_group, offered, send,
     take_answer_off, take_off,
 };
 use crate::event::{Access, Completion, Event, Group, Stepped, idle};
+use crate::greedy::least_of;
 use crate::memory::MainMemory;
-use crate::uncached::{
-    access_of, add_completed, both, cache_count, completion_by, has_cache, has_way, request_for,
-    set_count,
-};
+use crate::uncached::{access_of, add_completed, completion_by, request_for};
 use bk_base::{Config, Done, Op};
 use bk_engine::{Choice, Core, Effect, effect_of, run, stop_of};
 use bk_isa::Instr;
 use bk_msg::{ENGINE, MEMORY, Row};
+use bk_trace::Trace;
 use std::alloc::{AllocError, Global};
 
 /// How many way groups there are at the most.
@@ -83,6 +83,7 @@ impl System {
     ghost use Rattle.bk_system.specs.State.{opening};
     ghost use Rattle.bk_system.specs.Systems.{row_from};
     ghost use Rattle.bk_system.specs.Events.{issue_message, issued, command_completion, completed, access_of, accessed, first, offered, can_run, engine_row, row};
+    ghost use Rattle.bk_system.specs.Greedy.{least_enabled};
     ghost use Rattle.bk_system.specs.Runs.{after, is_enabled, is_quiet, is_rested};
 
     /// A system at its opening: empty caches, memory of zeros, empty channels, the engine at its start.
@@ -446,5 +447,15 @@ impl System {
             Ok(Stepped::Ran(_)) => Ok(true),
             Err(e) => Err(e),
         }
+    }
+
+    /// The least enabled event of the greedy order, each Issue being of its cache's next operation in the
+    /// trace: Issue by cache; Engine, first with class 0, then responses, memory and requests, each by
+    /// source; Command by cache; Fill; Memory. None exactly where none of them is enabled.
+    pub fn least_enabled(&self, program: &[Instr], trace: &Trace) -> Option<Event>
+        requires { trace.now.config ≡ self.now.config }
+        ensures { result ≡ least_enabled self.now.config program.now (state_of self.now) trace.now.lines }
+    {
+        least_of(self, program, trace)
     }
 }

@@ -1,7 +1,7 @@
 use Rattle.std.proofs.Common.{◌∙◌, sym}
 use Rattle.bk_system.specs.Systems.{state_of}
 use Rattle.bk_system.proofs.Scheduling.{least-memory}
-use Rattle.bk_system.proofs.greedy.least_enabled.Goals as goal
+use Rattle.bk_system.proofs.greedy.least_of.Goals as goal
 
 pub returns : goal.returns
 returns c = c.if_enabled.ensures ∙ sym (least-memory c.args.system.now.config c.args.program.now (state_of c.args.system.now) c.args.trace.now.lines

@@ -1,0 +1,5 @@
+pub mod Bases
+pub mod Least
+pub mod Programs
+pub mod Rows
+pub mod Steps

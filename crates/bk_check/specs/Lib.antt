@@ -1,0 +1,4 @@
+pub mod Accepted
+pub mod Flow
+pub mod Obligations
+pub mod Values

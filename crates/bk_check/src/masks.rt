@@ -1,0 +1,258 @@
+//! Sets of values of one field, and masks of a set for each field.
+
+ghost use Rattle.std.specs.Prelude.{◌≡◌};
+ghost use Rattle.bk_check.specs.Flow.{may, lacks, when, only_state, only_debt, only_down, is_shared, flag, with_flag, set_not, set_and, set_or, with_field, idle_with, held_with, nothing, start};
+
+use crate::values::{
+    ACKS_ZERO, DOWN_F, DOWN_I, DOWN_O, DOWN_PAID, DOWN_S, DREQ_E, DREQ_F, DREQ_M, DREQ_O,
+    DREQ_PAID, DREQ_S, FIELD_ACKS, FIELD_F0, FIELD_F1, FIELD_F2, FIELD_GP, FIELD_HEAD, FIELD_KIND,
+    FIELD_OTHERS, FIELD_OWN, FIELD_OWNER, FIELD_VICTIM, FLAG_0, FLAG_1, GP_FREE, HEAD_NONE,
+    KIND_ANY, KIND_RD, MEM_IDLE, OTHERS_ANY, OTHERS_NO, OWN_ANY, OWN_E, OWN_F, OWN_I, OWN_M, OWN_O,
+    OWN_S, OWNER_ANY, OWNER_NONE, STAGE_HELD, STAGE_IDLE, SUMM_NO, VICTIM_ANY, VICTIM_LIGHT,
+    WB_IDLE,
+};
+use bk_base::Coh;
+use bk_know::Sets;
+
+/// Whether a field may have one of the values.
+pub fn may(set: u8, values: u8) -> bool
+    ensures { result ≡ may set values }
+{
+    set & values != 0
+}
+
+/// Whether a field has none of the values.
+pub fn lacks(set: u8, values: u8) -> bool
+    ensures { result ≡ lacks set values }
+{
+    set & values == 0
+}
+
+/// The values where the test holds, else no value.
+pub fn when(test: bool, values: u8) -> u8
+    ensures { result ≡ when test values }
+{
+    if test { values } else { 0 }
+}
+
+/// A state alone, in the field `own`.
+pub fn only_state(state: Coh) -> u8
+    ensures { result ≡ only_state state }
+{
+    match state {
+        Coh::I => OWN_I,
+        Coh::S => OWN_S,
+        Coh::E => OWN_E,
+        Coh::F => OWN_F,
+        Coh::M => OWN_M,
+        Coh::O => OWN_O,
+    }
+}
+
+/// A state alone, in the field `dreq`, what is owed to the requester's entry. I is no such debt,
+/// so it is no value, which no mask has.
+pub fn only_debt(state: Coh) -> u8
+    ensures { result ≡ only_debt state }
+{
+    match state {
+        Coh::I => 0,
+        Coh::S => DREQ_S,
+        Coh::E => DREQ_E,
+        Coh::F => DREQ_F,
+        Coh::M => DREQ_M,
+        Coh::O => DREQ_O,
+    }
+}
+
+/// A state alone, in the field `down`, what is owed to the owner's entry. E and M are no such
+/// debts.
+pub fn only_down(state: Coh) -> u8
+    ensures { result ≡ only_down state }
+{
+    match state {
+        Coh::I => DOWN_I,
+        Coh::S => DOWN_S,
+        Coh::F => DOWN_F,
+        Coh::O => DOWN_O,
+        Coh::E | Coh::M => 0,
+    }
+}
+
+/// Whether the state is S.
+pub fn is_shared(state: Coh) -> bool
+    ensures { result ≡ is_shared state }
+{
+    matches!(state, Coh::S)
+}
+
+/// The values that flag `a` may have.
+pub fn flag(sets: Sets, a: u8) -> u8
+    ensures { result ≡ flag sets a }
+{
+    match a {
+        0 => sets.f0,
+        1 => sets.f1,
+        2 => sets.f2,
+        _ => sets.f3,
+    }
+}
+
+/// The mask with other values for flag `a`.
+pub fn with_flag(sets: Sets, a: u8, values: u8) -> Sets
+    ensures { result ≡ with_flag sets a values }
+{
+    match a {
+        0 => Sets { f0: values, ..sets },
+        1 => Sets { f1: values, ..sets },
+        2 => Sets { f2: values, ..sets },
+        _ => Sets { f3: values, ..sets },
+    }
+}
+
+/// The values of the negation of a flag.
+pub fn set_not(a: u8) -> u8
+    ensures { result ≡ set_not a }
+{
+    when(may(a, FLAG_1), FLAG_0) + when(may(a, FLAG_0), FLAG_1)
+}
+
+/// The values of the conjunction of two flags.
+pub fn set_and(a: u8, b: u8) -> u8
+    ensures { result ≡ set_and a b }
+{
+    when(may(a, FLAG_0) || may(b, FLAG_0), FLAG_0) + when(may(a, FLAG_1) && may(b, FLAG_1), FLAG_1)
+}
+
+/// The values of the disjunction of two flags.
+pub fn set_or(a: u8, b: u8) -> u8
+    ensures { result ≡ set_or a b }
+{
+    when(may(a, FLAG_0) && may(b, FLAG_0), FLAG_0) + when(may(a, FLAG_1) || may(b, FLAG_1), FLAG_1)
+}
+
+/// The mask with other values for the field of a number, of those that `bk` tests.
+pub fn with_field(sets: Sets, number: u8, values: u8) -> Sets
+    ensures { result ≡ with_field sets number values }
+{
+    match number {
+        FIELD_HEAD => Sets {
+            head: values,
+            ..sets
+        },
+        FIELD_GP => Sets { gp: values, ..sets },
+        FIELD_KIND => Sets {
+            kind: values,
+            ..sets
+        },
+        FIELD_OWN => Sets {
+            own: values,
+            ..sets
+        },
+        FIELD_OWNER => Sets {
+            owner: values,
+            ..sets
+        },
+        FIELD_OTHERS => Sets {
+            others: values,
+            ..sets
+        },
+        FIELD_VICTIM => Sets {
+            victim: values,
+            ..sets
+        },
+        FIELD_ACKS => Sets {
+            acks: values,
+            ..sets
+        },
+        FIELD_F0 => Sets { f0: values, ..sets },
+        FIELD_F1 => Sets { f1: values, ..sets },
+        FIELD_F2 => Sets { f2: values, ..sets },
+        _ => Sets { f3: values, ..sets },
+    }
+}
+
+/// The mask of an engine that holds no request, with the flags of the given one.
+pub fn idle_with(sets: Sets) -> Sets
+    ensures { result ≡ idle_with sets }
+{
+    Sets {
+        stage: STAGE_IDLE,
+        head: HEAD_NONE,
+        gp: GP_FREE,
+        kind: KIND_RD,
+        summ: SUMM_NO,
+        own: OWN_I,
+        owner: OWNER_NONE,
+        others: OTHERS_NO,
+        victim: VICTIM_LIGHT,
+        acks: ACKS_ZERO,
+        wb: WB_IDLE,
+        mem: MEM_IDLE,
+        dreq: DREQ_PAID,
+        down: DOWN_PAID,
+        ..sets
+    }
+}
+
+/// The mask of an engine that holds a request of which nothing is known, with the flags of the
+/// given one.
+pub fn held_with(sets: Sets) -> Sets
+    ensures { result ≡ held_with sets }
+{
+    Sets {
+        stage: STAGE_HELD,
+        head: HEAD_NONE,
+        gp: GP_FREE,
+        kind: KIND_ANY,
+        summ: SUMM_NO,
+        own: OWN_ANY,
+        owner: OWNER_ANY,
+        others: OTHERS_ANY,
+        victim: VICTIM_ANY,
+        acks: ACKS_ZERO,
+        wb: WB_IDLE,
+        mem: MEM_IDLE,
+        dreq: DREQ_PAID,
+        down: DOWN_PAID,
+        ..sets
+    }
+}
+
+/// The union of no masks: no field has a value.
+pub fn nothing() -> Sets
+    ensures { result ≡ nothing }
+{
+    Sets {
+        stage: 0,
+        head: 0,
+        gp: 0,
+        kind: 0,
+        summ: 0,
+        own: 0,
+        owner: 0,
+        others: 0,
+        victim: 0,
+        acks: 0,
+        wb: 0,
+        mem: 0,
+        dreq: 0,
+        down: 0,
+        f0: 0,
+        f1: 0,
+        f2: 0,
+        f3: 0,
+    }
+}
+
+/// The mask of an engine at its start: it holds no request, and each flag is 0.
+pub fn start() -> Sets
+    ensures { result ≡ start }
+{
+    idle_with(Sets {
+        f0: FLAG_0,
+        f1: FLAG_0,
+        f2: FLAG_0,
+        f3: FLAG_0,
+        ..nothing()
+    })
+}
