@@ -76,7 +76,7 @@ pub enum Form {
     /// `fin`: ends the held request: none is held, and the row and the block are given up.
     Fin,
     /// `wfq`: waits for a message of one of the classes `a` and takes a copy of it as the head.
-    /// A response is 1, a message of memory 2, a request 4, and the classes are added.
+    /// The classes are added: 1 stands for responses, 2 for messages of memory, 4 for requests.
     Wfq { a: u8 },
     /// `popq`: removes the head from its channel. With `wp` (`a` is 1) it also sets or clears
     /// the pending bit of the block's group.
