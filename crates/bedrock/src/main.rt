@@ -1,5 +1,6 @@
-//! `bedrock replay serial IMAGE TRACE`: runs an image of microcode over a trace, and prints the report.
-//! The exit code is the status of `bk_cmd`, and standard error tells of a fault.
+//! `bedrock verify IMAGE` gives the verdict on an image of microcode; `bedrock replay serial IMAGE TRACE` runs
+//! one over a trace and prints the report. The exit code is the status of `bk_cmd`, and standard error tells of
+//! a fault.
 #![tactic(auto)]
 
 ghost use Rattle.std.specs.Prelude.{◌≡◌, ◌≢◌, IsTrue};
@@ -37,6 +38,7 @@ fn no_words(alloc: Global, error: &io::Error) -> Outcome
         at: 0,
         column: 0,
         kind: 0,
+        refusal: None,
         events: Vec::new(alloc),
         written: 0,
     }

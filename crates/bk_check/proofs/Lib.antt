@@ -1,5 +1,6 @@
 pub mod Bases
 pub mod Least
+pub mod Mutants
 pub mod Programs
 pub mod Rows
 pub mod Steps

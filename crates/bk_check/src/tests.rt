@@ -1,34 +1,35 @@
 use super::*;
+use bk_image::Image;
 use bk_isa::{Form, Instr};
-use bk_know::Know;
+use bk_know::{Know, idle};
+use std::alloc::Global;
 use std::test::*;
+
+/// The verdict on a list of forms with know lines.
+fn verdict(
+    alloc: Global,
+    forms: &[Form],
+    lines: &[(u32, Know)],
+) -> Result<Result<(), Refusal>, Fail> {
+    let mut instrs = Vec::new(alloc);
+    for form in forms {
+        instrs.push(Instr::make(*form).ok_or("operands in range")?)?;
+    }
+    let image = Image::make(instrs, lines.to_vec(alloc)?).ok_or("an image")?;
+    Ok(check(&image))
+}
 
 #[test]
 fn verdicts(rt: HostRuntime) -> Result<(), Fail> {
-    let idle = Know::make(0xff08_2255_0824_2811).ok_or("a value in each field")?;
-    let wait = Instr::make(Form::Wfq { a: 5 }).ok_or("classes in range")?;
-    let back = Instr::make(Form::Bi { imm: 0 }).ok_or("a place in range")?;
-    assert_eq!(rt; check(&[], &[]), Ok(()));
+    let alloc = rt.alloc();
+    let wait = Form::Wfq { a: 5 };
+    let back = Form::Bi { imm: 0 };
+    let refused = |at, obligation| Err(Refusal { at, obligation });
+    assert_eq!(rt; verdict(alloc, &[back], &[])?, refused(0, 1));
+    assert_eq!(rt; verdict(alloc, &[back], &[(0, idle())])?, refused(0, 3));
     assert_eq!(rt;
-        check(&[back], &[]),
-        Err(Refusal {
-            at: 0,
-            obligation: 1
-        })
-    );
-    assert_eq!(rt;
-        check(&[back], &[(0, idle)]),
-        Err(Refusal {
-            at: 0,
-            obligation: 3
-        })
-    );
-    assert_eq!(rt;
-        check(&[wait, back], &[(0, idle)]),
-        Err(Refusal {
-            at: 1,
-            obligation: 4
-        })
+        verdict(alloc, &[wait, back], &[(0, idle())])?,
+        refused(1, 4)
     );
     Ok(())
 }

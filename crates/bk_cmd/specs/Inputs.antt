@@ -1,4 +1,4 @@
--- The files of a replay, and what keeps one from beginning.
+-- The files of a command, and what they hold.
 use Rattle.std.specs.Prelude.{◌≡◌, ℕ, ◌+◌, ◌*◌, List, not, position, Option, Some, None, Result, Ok, Err, IfSome, option_and_then, if◌then◌else◌}
 use Rattle.std.specs.List.{list_all}
 use Rattle.bk_image.specs.Faults.{Bad}
@@ -32,17 +32,19 @@ runnable_trace text = option_and_then check_trace (trace_of text)
 abbrev pub Files : Type 0
 Files = Option (List ℕ → Option (List ℕ))
 
--- Some bytes, which are the file's where the shelf tells, read so as an image.
-pub record ImageIs (files : Files) (name : List ℕ) (answer : Result images.Parts Bad) : Type 0 where
+-- Of some bytes, which are the file's where the shelf tells, this holds.
+pub record FileHolds (files : Files) (name : List ℕ) (Holds : List ℕ → Type 0) : Type 0 where
   pub bytes : List ℕ
   pub found : IfSome files (λ at. at name ≡ Some bytes)
-  pub reads : runnable_image bytes ≡ answer
+  pub holds : Holds bytes
 
--- Some bytes, which are the file's where the shelf tells, read so as a trace.
-pub record TraceIs (files : Files) (name : List ℕ) (answer : Option traces.Parts) : Type 0 where
-  pub bytes : List ℕ
-  pub found : IfSome files (λ at. at name ≡ Some bytes)
-  pub reads : runnable_trace bytes ≡ answer
+-- the file reads so as an image that is run
+abbrev pub ImageIs : Files → List ℕ → Result images.Parts Bad → Type 0
+ImageIs files name answer = FileHolds files name (λ bytes. runnable_image bytes ≡ answer)
+
+-- the file reads so as a trace
+abbrev pub TraceIs : Files → List ℕ → Option traces.Parts → Type 0
+TraceIs files name answer = FileHolds files name (λ bytes. runnable_trace bytes ≡ answer)
 
 -- a trace is read only after an image that is fit to run
 pub record AfterImage (files : Files) (name : List ℕ) (Next : Type 0) : Type 0 where

@@ -1,7 +1,11 @@
 pub mod Unbuilt
 pub mod Words
+pub mod Told
 pub mod Outcomes
 pub mod Inputs
+pub mod Answers
 pub mod Stops
+pub mod Writes
 pub mod Replays
+pub mod Ends
 pub mod FaultTexts

@@ -1,27 +1,23 @@
 -- How a replay ends, once its files are read.
-use Rattle.std.specs.Prelude.{◌≡◌, ℕ, ◌<◌, ◌⊎◌, List, length, take, Bool, true, false, Option, Some, Ok, String}
-use Rattle.std.specs.Global.{Global}
+use Rattle.std.specs.Prelude.{ℕ, ◌⊎◌, List, length, Bool, true, false, Option, Some, Ok}
 use Rattle.bk_image.specs.Images as images
 use Rattle.bk_trace.specs.Traces as traces
-use Rattle.bk_outer.specs.Sink.{appended}
 use Rattle.bk_system.specs.declared.event.Event.{Event}
 use Rattle.bk_system.specs.Greedy.{budget_of}
 use Rattle.bk_system.specs.Serial.{IsEnded, IsSpent}
 use Rattle.bk_system.specs.Report.{IsReport}
 use Rattle.bk_system.specs.declared.runs.SerialFault.{SerialFault}
 use Rattle.bk_system.specs.declared.runs.SerialFault.TheVariants.{Spent, Memory}
-use Rattle.bk_cmd.specs.Words.{FileNames, names_of}
 use Rattle.bk_cmd.specs.declared.outcome.Outcome.{Outcome}
 use Rattle.bk_cmd.specs.Inputs.{Files, ImageIs, TraceIs}
+use Rattle.bk_cmd.specs.Writes.{Wrote, WrotePart}
 
--- The words name an image and a trace that are fit to run, and of these something holds.
-pub record OfInputs (files : Files) (words : List (String Global)) (Holds : images.Parts → traces.Parts → Type 0) : Type 0 where
-  pub names : FileNames
-  pub named : names_of words ≡ Some names
+-- The files are an image and a trace that are fit to run, and of these something holds.
+pub record OfInputs (files : Files) (image_name trace_name : List ℕ) (Holds : images.Parts → traces.Parts → Type 0) : Type 0 where
   pub image : images.Parts
   pub trace : traces.Parts
-  pub image_is : ImageIs files names.image (Ok image)
-  pub trace_is : TraceIs files names.trace (Some trace)
+  pub image_is : ImageIs files image_name (Ok image)
+  pub trace_is : TraceIs files trace_name (Some trace)
   pub holds : Holds image trace
 
 abbrev pub budget_for : images.Parts → traces.Parts → ℕ
@@ -48,18 +44,16 @@ IsRunFault image trace Memory = Unit {0}
 abbrev pub AreEvents : images.Parts → traces.Parts → List Event → Type 0
 AreEvents image trace events = RunEnds image trace events true ⊎ EndsShort image trace events
 
--- The run is complete, and its report was taken whole.
-pub record Wrote (image : images.Parts) (trace : traces.Parts) (o : Outcome) (before after : Option (List ℕ)) : Type 0 where
+-- The run is complete, and all of its report was taken.
+pub record Reported (image : images.Parts) (trace : traces.Parts) (o : Outcome) (before after : Option (List ℕ)) : Type 0 where
   pub ended : RunEnds image trace o.events.items true
   pub report : List ℕ
   pub is_report : IsReport trace.config image.instrs trace.lines o.events.items report
-  pub whole : o.written ≡ length report
-  pub taken : after ≡ appended before report
+  pub wrote : Wrote report o before after
 
 -- The run is complete, and not all of its report was taken.
-pub record WrotePart (image : images.Parts) (trace : traces.Parts) (o : Outcome) (before after : Option (List ℕ)) : Type 0 where
+pub record ReportedPart (image : images.Parts) (trace : traces.Parts) (o : Outcome) (before after : Option (List ℕ)) : Type 0 where
   pub ended : RunEnds image trace o.events.items true
   pub report : List ℕ
   pub is_report : IsReport trace.config image.instrs trace.lines o.events.items report
-  pub part : o.written < length report
-  pub taken : after ≡ appended before (take o.written report)
+  pub wrote : WrotePart report o before after

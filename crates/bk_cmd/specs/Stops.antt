@@ -1,67 +1,100 @@
--- What each reason to stop before a run says. Unread says that a read failed.
-use Rattle.std.specs.Prelude.{◌≡◌, ℕ, List, Option, Some, None, Result, Ok, Err}
-use Rattle.bk_image.specs.Faults.{Bad}
+-- What each reason to stop says. The two types say that the shelf's count of faults rose, and its count of misses.
+use Rattle.std.specs.Prelude.{◌≡◌, ℕ, ◌<◌, ◌⊎◌, List, length, Option, Some, None, Result, Ok, Err, IfSome, IsSomeAnd}
+use Rattle.std.specs.Global.{Vec}
+use Rattle.bk_outer.specs.declared.shelf.TheConstants.{FILE_LIMIT}
+use Rattle.bk_image.specs.Faults as faults
 use Rattle.bk_image.specs.Images as images
 use Rattle.bk_trace.specs.Traces as traces
-use Rattle.bk_cmd.specs.Inputs.{Files, ImageIs, TraceIs, AfterImage}
+use Rattle.bk_cmd.specs.Answers.{Answer, Due, Refuses, Fault, bad_at, VerifySays}
+use Rattle.bk_cmd.specs.Inputs.{Files, FileHolds, ImageIs, TraceIs, AfterImage}
+use Rattle.bk_cmd.specs.Words.{Command, Verify, Replay, file_of}
+use Rattle.bk_cmd.specs.declared.outcome.Unread as unread
+use Rattle.bk_cmd.specs.declared.outcome.Unread.TheVariants.{Absent, Failed, TooLong}
 use Rattle.bk_cmd.specs.declared.outcome.Stop.{Stop}
-use Rattle.bk_cmd.specs.declared.outcome.Stop.TheVariants.{Memory, Usage, BadImage, BadTrace, UnreadImage, UnreadTrace}
+use Rattle.bk_cmd.specs.declared.outcome.Stop.TheVariants.{Memory, Usage, Unread, Bad, Refused}
 
-abbrev pub bad_at : ℕ → ℕ → Bad
-bad_at at kind = record { place = at; kind = kind }
+-- ---- what a reader of bytes answers
 
--- The bytes of an image read so, or memory ran out.
-abbrev pub IsBadImage : Stop → Result images.Parts Bad → Type 0
-IsBadImage Memory told = Unit {0}
-IsBadImage Usage told = ⊥
-IsBadImage (BadImage at kind) told = told ≡ Err (bad_at at kind)
-IsBadImage BadTrace told = ⊥
-IsBadImage UnreadImage told = ⊥
-IsBadImage UnreadTrace told = ⊥
+-- the bytes of an image read so, or memory ran out
+abbrev pub GivesImage : Result images.Parts Stop → Result images.Parts faults.Bad → Type 0
+GivesImage (Ok image) read = read ≡ Ok image
+GivesImage (Err Memory) read = Unit {0}
+GivesImage (Err (Bad file at column kind)) read = (file ≡ 1) × (column ≡ 0) × (read ≡ Err (bad_at at kind))
+GivesImage (Err _) read = ⊥
 
-abbrev pub GivesImage : Result images.Parts Stop → Result images.Parts Bad → Type 0
-GivesImage (Ok image) told = told ≡ Ok image
-GivesImage (Err stop) told = IsBadImage stop told
-
--- The bytes of a trace read so, or memory ran out.
-abbrev pub IsBadTrace : Stop → Option traces.Parts → Type 0
-IsBadTrace Memory told = Unit {0}
-IsBadTrace Usage told = ⊥
-IsBadTrace (BadImage at kind) told = ⊥
-IsBadTrace BadTrace told = told ≡ None
-IsBadTrace UnreadImage told = ⊥
-IsBadTrace UnreadTrace told = ⊥
-
+-- the bytes of a trace read so, or memory ran out
 abbrev pub GivesTrace : Result traces.Parts Stop → Option traces.Parts → Type 0
-GivesTrace (Ok trace) told = told ≡ Some trace
-GivesTrace (Err stop) told = IsBadTrace stop told
+GivesTrace (Ok trace) read = read ≡ Some trace
+GivesTrace (Err Memory) read = Unit {0}
+GivesTrace (Err (Bad file at column kind)) read = (file ≡ 2) × (at ≡ 0) × (column ≡ 0) × (kind ≡ 0) × (read ≡ None)
+GivesTrace (Err _) read = ⊥
 
--- a file could not be read, which the shelf counted, or memory ran out
-abbrev pub IsReadStop : Stop → Type 0 → Stop → Type 0
-IsReadStop unread rose Memory = Unit {0}
-IsReadStop unread rose stop = (stop ≡ unread) × rose
+-- a command of one file says so, or memory ran out
+abbrev pub GivesAnswer : Result (Vec ℕ) Stop → (Answer → Type 0) → Type 0
+GivesAnswer (Ok text) Says = Says (Due text.items)
+GivesAnswer (Err Memory) Says = Unit {0}
+GivesAnswer (Err (Bad file at column kind)) Says = (file ≡ 1) × Says (Fault at column kind)
+GivesAnswer (Err (Refused refusal)) Says = Says (Refuses refusal.at refusal.obligation)
+GivesAnswer (Err _) Says = ⊥
 
-abbrev pub IsImageStop : Files → List ℕ → Type 0 → Stop → Type 0
-IsImageStop files name rose Memory = Unit {0}
-IsImageStop files name rose Usage = ⊥
-IsImageStop files name rose (BadImage at kind) = ImageIs files name (Err (bad_at at kind))
-IsImageStop files name rose BadTrace = ⊥
-IsImageStop files name rose UnreadImage = rose
-IsImageStop files name rose UnreadTrace = ⊥
+-- ---- files that gave no bytes
 
-abbrev pub IsTraceStop : Files → List ℕ → Type 0 → Stop → Type 0
-IsTraceStop files name rose Memory = Unit {0}
-IsTraceStop files name rose Usage = ⊥
-IsTraceStop files name rose (BadImage at kind) = ⊥
-IsTraceStop files name rose BadTrace = TraceIs files name None
-IsTraceStop files name rose UnreadImage = ⊥
-IsTraceStop files name rose UnreadTrace = rose
+-- the shelf counted it; where it tells its files, there is none of the name, or it is over the limit
+abbrev pub IsUnread : Files → List ℕ → Type 0 → Type 0 → unread.Unread → Type 0
+IsUnread files name failed missed Absent = missed × IfSome files (λ at. at name ≡ None)
+IsUnread files name failed missed Failed = failed
+IsUnread files name failed missed TooLong = missed × IfSome files (λ at. IsSomeAnd (at name) (λ bytes. FILE_LIMIT < length bytes))
 
--- the image first, and then the trace
-abbrev pub IsStop : Files → List ℕ → List ℕ → Type 0 → Stop → Type 0
-IsStop files image trace rose Memory = Unit {0}
-IsStop files image trace rose Usage = ⊥
-IsStop files image trace rose (BadImage at kind) = ImageIs files image (Err (bad_at at kind))
-IsStop files image trace rose BadTrace = AfterImage files image (TraceIs files trace None)
-IsStop files image trace rose UnreadImage = rose
-IsStop files image trace rose UnreadTrace = AfterImage files image rose
+-- a file gave no bytes, or memory ran out
+abbrev pub IsReadStop : Files → List ℕ → ℕ → Type 0 → Type 0 → Stop → Type 0
+IsReadStop files name number failed missed Memory = Unit {0}
+IsReadStop files name number failed missed (Unread file cause) = (file ≡ number) × IsUnread files name failed missed cause
+IsReadStop files name number failed missed _ = ⊥
+
+-- of the image of a replay
+abbrev pub IsImageStop : Files → List ℕ → Type 0 → Type 0 → Stop → Type 0
+IsImageStop files name failed missed Memory = Unit {0}
+IsImageStop files name failed missed (Unread file cause) = (file ≡ 1) × IsUnread files name failed missed cause
+IsImageStop files name failed missed (Bad file at column kind) = (file ≡ 1) × (column ≡ 0) × ImageIs files name (Err (bad_at at kind))
+IsImageStop files name failed missed _ = ⊥
+
+-- of its trace
+abbrev pub IsTraceStop : Files → List ℕ → Type 0 → Type 0 → Stop → Type 0
+IsTraceStop files name failed missed Memory = Unit {0}
+IsTraceStop files name failed missed (Unread file cause) = (file ≡ 2) × IsUnread files name failed missed cause
+IsTraceStop files name failed missed (Bad file at column kind) = (file ≡ 2) × (at ≡ 0) × (column ≡ 0) × (kind ≡ 0) × TraceIs files name None
+IsTraceStop files name failed missed _ = ⊥
+
+-- ---- commands
+
+-- this file is the command's, and its turn comes: a trace is read after an image that is fit to run
+abbrev pub Reaches : Files → Command → ℕ → Type 0
+Reaches files (Verify image) file = file ≡ 1
+Reaches files (Replay image trace) file = (file ≡ 1) ⊎ ((file ≡ 2) × AfterImage files image (Unit {0}))
+
+-- of the bytes of the command's one file it says so
+abbrev pub Says : Files → Command → Answer → Type 0
+Says files (Verify image) answer = FileHolds files image (λ bytes. VerifySays bytes answer)
+Says files (Replay image trace) answer = ⊥
+
+-- the first fault of the image; or that the trace is none, after an image that is fit to run
+abbrev pub IsBadInput : Files → List ℕ → List ℕ → ℕ → ℕ → ℕ → ℕ → Type 0
+IsBadInput files image trace file at column kind =
+    ((file ≡ 1) × (column ≡ 0) × ImageIs files image (Err (bad_at at kind)))
+    ⊎ ((file ≡ 2) × (at ≡ 0) × (column ≡ 0) × (kind ≡ 0) × AfterImage files image (TraceIs files trace None))
+
+-- the file of this number has this fault
+abbrev pub IsBad : Files → Command → ℕ → ℕ → ℕ → ℕ → Type 0
+IsBad files (Verify image) file at column kind = (file ≡ 1) × Says files (Verify image) (Fault at column kind)
+IsBad files (Replay image trace) file at column kind = IsBadInput files image trace file at column kind
+
+-- the file of this number gave no bytes
+abbrev pub IsMissing : Files → Command → ℕ → Type 0 → Type 0 → unread.Unread → Type 0
+IsMissing files command file failed missed cause = Reaches files command file × IfSome (file_of command file) (λ name. IsUnread files name failed missed cause)
+
+abbrev pub IsStop : Files → Command → Type 0 → Type 0 → Stop → Type 0
+IsStop files command failed missed Memory = Unit {0}
+IsStop files command failed missed Usage = ⊥
+IsStop files command failed missed (Unread file cause) = IsMissing files command file failed missed cause
+IsStop files command failed missed (Bad file at column kind) = IsBad files command file at column kind
+IsStop files command failed missed (Refused refusal) = Says files command (Refuses refusal.at refusal.obligation)

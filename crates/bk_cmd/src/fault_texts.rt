@@ -1,10 +1,13 @@
 ghost use Rattle.std.specs.Prelude.{◌≡◌, ◌+◌, ◌≤◌, ◌<◌, ◌++◌, ◌∷◌, [], length};
 ghost use Rattle.std.specs.Fmt.{decimal};
 ghost use Rattle.arrayvec.specs.ArrayString.{array_string_len};
-ghost use Rattle.bk_cmd.specs.FaultTexts.{malformed_text, read_fault_text, fault_text};
+ghost use Rattle.bk_cmd.specs.FaultTexts.{malformed_text, file_text, refused_text, fault_text};
 
-use crate::outcome::{MALFORMED, MEMORY, Outcome, READ_FAULT, SPENT, USAGE, WRITE_FAULT};
+use crate::outcome::{
+    ABSENT, MALFORMED, MEMORY, Outcome, READ_FAULT, REFUSED, SPENT, TOO_LONG, USAGE, WRITE_FAULT,
+};
 use arrayvec::ArrayString;
+use bk_check::Refusal;
 
 /// The most bytes that a line has. Its numbers have at most 20 digits.
 const LINE_BYTES: usize = 96;
@@ -74,11 +77,26 @@ fn malformed_line(outcome: &Outcome) -> ArrayString<LINE_BYTES>
     line
 }
 
-fn read_fault_line(outcome: &Outcome) -> ArrayString<LINE_BYTES>
-    ensures { result.bytes ≡ read_fault_text outcome.now }
+/// The line that names a file behind this text.
+fn file_line(what: &str, outcome: &Outcome) -> ArrayString<LINE_BYTES>
+    requires { length what.now + 3 ≤ 96 }
+    ensures { result.bytes ≡ file_text what.now outcome.now }
 {
-    let mut line = line_of("bedrock: read fault file ");
+    let mut line = line_of(what);
     push_small(&mut line, outcome.file);
+    line
+}
+
+fn refused_line(refusal: Option<Refusal>) -> ArrayString<LINE_BYTES>
+    ensures { result.bytes ≡ refused_text refusal }
+{
+    let mut line = line_of("bedrock: refused");
+    if let Some(refusal) = refusal {
+        line.push_str(" at ");
+        push_number(&mut line, refusal.at as u64);
+        line.push_str(": O");
+        push_small(&mut line, refusal.obligation);
+    }
     line
 }
 
@@ -89,9 +107,12 @@ pub fn fault_line(outcome: &Outcome) -> ArrayString<LINE_BYTES>
     match outcome.status {
         MEMORY => line_of("bedrock: memory"),
         USAGE => line_of("bedrock: usage"),
+        REFUSED => refused_line(outcome.refusal),
         MALFORMED => malformed_line(outcome),
-        READ_FAULT => read_fault_line(outcome),
+        ABSENT => file_line("bedrock: absent file ", outcome),
+        READ_FAULT => file_line("bedrock: read fault file ", outcome),
         WRITE_FAULT => line_of("bedrock: write fault"),
+        TOO_LONG => file_line("bedrock: too long file ", outcome),
         SPENT => line_of("bedrock: spent"),
         _ => ArrayString::new(),
     }

@@ -1,16 +1,24 @@
 //! Commands: what a command line asks for, and how it ended.
 #![tactic(auto)]
 
+mod answers;
 mod fault_texts;
 mod inputs;
 mod outcome;
 mod replay;
+mod run;
 mod unbuilt;
 mod words;
+mod writing;
 
 pub use fault_texts::fault_line;
-pub use outcome::{MALFORMED, MEMORY, OK, Outcome, READ_FAULT, SPENT, USAGE, WRITE_FAULT};
-pub use replay::run_plain;
+pub use outcome::{
+    ABSENT, MALFORMED, MEMORY, OK, Outcome, READ_FAULT, REFUSED, SPENT, TOO_LONG, USAGE,
+    WRITE_FAULT,
+};
+pub use run::run_plain;
 
+#[cfg(test)]
+mod programs;
 #[cfg(test)]
 mod tests;

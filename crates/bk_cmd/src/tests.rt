@@ -1,23 +1,9 @@
 use super::*;
+use crate::programs::{EI, MESI, MOESIF, MSI, UNCACHED, UNCACHED_KNOWN};
+use bk_check::Refusal;
 use bk_outer::{MemShelf, MemSink};
 use std::alloc::Global;
 use std::test::Fail;
-
-/// Serves requests that go past the caches, one at a time.
-const UNCACHED: [u8; 184] = [
-    0x42, 0x4b, 0x55, 0x43, 0x01, 0x00, 0x00, 0x00, 0x15, 0x00, 0x00, 0x00, 0x00, 0x00, 0x00, 0x00,
-    0x00, 0x00, 0x00, 0x00, 0x00, 0x00, 0x05, 0x50, 0x04, 0x00, 0x00, 0x00, 0x00, 0x02, 0x02, 0x25,
-    0x00, 0x00, 0x00, 0x00, 0x00, 0x00, 0x01, 0x51, 0x00, 0x00, 0x00, 0x00, 0x00, 0x00, 0x00, 0x20,
-    0x09, 0x00, 0x00, 0x00, 0x00, 0x01, 0x03, 0x25, 0x00, 0x00, 0x00, 0x00, 0x00, 0x00, 0x00, 0x52,
-    0x00, 0x00, 0x00, 0x00, 0x00, 0x00, 0x01, 0x50, 0x00, 0x00, 0x00, 0x00, 0x00, 0x00, 0x01, 0x51,
-    0x00, 0x00, 0x00, 0x00, 0x00, 0x00, 0x00, 0x20, 0x00, 0x00, 0x00, 0x00, 0x00, 0x00, 0x01, 0x51,
-    0x0f, 0x00, 0x00, 0x00, 0x00, 0x04, 0x04, 0x25, 0x00, 0x00, 0x00, 0x00, 0x00, 0x00, 0x00, 0x69,
-    0x00, 0x00, 0x00, 0x00, 0x00, 0x00, 0x00, 0x65, 0x00, 0x00, 0x00, 0x00, 0x00, 0x00, 0x00, 0x44,
-    0x00, 0x00, 0x00, 0x00, 0x00, 0x00, 0x00, 0x20, 0x00, 0x00, 0x00, 0x00, 0x00, 0x00, 0x00, 0x67,
-    0x00, 0x00, 0x00, 0x00, 0x00, 0x00, 0x02, 0x50, 0x00, 0x00, 0x00, 0x00, 0x00, 0x00, 0x00, 0x51,
-    0x00, 0x00, 0x00, 0x00, 0x00, 0x00, 0x00, 0x64, 0x00, 0x00, 0x00, 0x00, 0x00, 0x00, 0x00, 0x44,
-    0x00, 0x00, 0x00, 0x00, 0x00, 0x00, 0x00, 0x20,
-];
 
 /// One `nop`, behind which the engine is stuck.
 const NOP: [u8; 24] = [
@@ -190,17 +176,6 @@ fn a_read_that_fails(rt: HostRuntime) -> Result<(), Fail> {
 }
 
 #[test]
-fn no_image(rt: HostRuntime) -> Result<(), Fail> {
-    let alloc = rt.alloc();
-    let mut shelf = MemShelf::make(alloc, Vec::new(alloc), Vec::new(alloc));
-    let mut sink = sink(alloc);
-    let outcome = run_plain(alloc, &words(alloc)?, &mut shelf, &mut sink);
-    assert_eq!(rt; numbers(&outcome), [READ_FAULT as u64, 1, 0, 0, 0, 0]);
-    assert!(rt; fault_line(&outcome).as_str() == "bedrock: read fault file 1");
-    Ok(())
-}
-
-#[test]
 fn long_numbers(rt: HostRuntime) {
     let outcome = Outcome {
         status: MALFORMED,
@@ -208,6 +183,7 @@ fn long_numbers(rt: HostRuntime) {
         at: u64::MAX,
         column: u64::MAX,
         kind: 255,
+        refusal: None,
         events: Vec::new(rt.alloc()),
         written: 0,
     };
@@ -225,8 +201,128 @@ fn memory_is_told(rt: HostRuntime) {
         at: 0,
         column: 0,
         kind: 0,
+        refusal: None,
         events: Vec::new(rt.alloc()),
         written: 0,
     };
     assert!(rt; fault_line(&outcome).as_str() == "bedrock: memory");
+}
+
+/// The words `verify a.bk`.
+fn verify_words(alloc: Global) -> Result<Vec<String>, Fail> {
+    let mut words = Vec::new(alloc);
+    for word in ["verify", "a.bk"] {
+        words.push(String::from_str(alloc, word)?)?;
+    }
+    Ok(words)
+}
+
+/// The outcome of `verify` on these bytes, over a sink that takes them whole, and what the sink then has.
+fn verified(alloc: Global, image: &[u8]) -> Result<(Outcome, MemSink), Fail> {
+    let mut shelf = shelf(alloc, image, "", Vec::new(alloc))?;
+    let mut sink = sink(alloc);
+    let outcome = run_plain(alloc, &verify_words(alloc)?, &mut shelf, &mut sink);
+    Ok((outcome, sink))
+}
+
+#[test]
+fn accepted_programs(rt: HostRuntime) -> Result<(), Fail> {
+    let programs = [&EI[..], &MSI[..], &MESI[..], &MOESIF[..]];
+    for image in programs {
+        let (outcome, sink) = verified(rt.alloc(), image)?;
+        assert_eq!(rt; numbers(&outcome), [OK as u64, 0, 0, 0, 0, 9]);
+        assert!(rt; sink.bytes() == "accepted\n".as_bytes());
+        assert_eq!(rt; outcome.refusal, None);
+    }
+    Ok(())
+}
+
+/// The image with another word at a place.
+fn with_word(alloc: Global, image: &[u8], place: u8, word: u64) -> Result<Vec<u8>, Fail> {
+    let mut bytes = image.to_vec(alloc)?;
+    for (byte, value) in bytes
+        .iter_mut()
+        .skip(16 + 8 * place as usize)
+        .zip(word.to_le_bytes())
+    {
+        *byte = value;
+    }
+    Ok(bytes)
+}
+
+#[test]
+fn refused_programs(rt: HostRuntime) -> Result<(), Fail> {
+    // An image, a place and its new word; the instruction and the obligation of the refusal.
+    let cases = [
+        (&MESI[..], 62, 0x6102_0000_0000_0000, 62, 18),
+        (&MESI[..], 2, 0x5100_0000_0000_0000, 2, 9),
+        (&EI[..], 53, 0, 55, 14),
+        (&MESI[..], 95, 0, 96, 4),
+        (&MESI[..], 60, 0x2504_0100_0000_003e, 60, 4),
+        (&UNCACHED[..], 0, 0x5005_0000_0000_0000, 0, 1),
+        (&UNCACHED_KNOWN[..], 0, 0x5005_0000_0000_0000, 11, 11),
+    ];
+    for (image, place, word, at, obligation) in cases {
+        let changed = with_word(rt.alloc(), image, place, word)?;
+        let (outcome, sink) = verified(rt.alloc(), &changed)?;
+        assert_eq!(rt; numbers(&outcome), [REFUSED as u64, 0, 0, 0, 0, 0]);
+        assert_eq!(rt; outcome.refusal, Some(Refusal { at, obligation }));
+        assert_eq!(rt; sink.bytes().len(), 0);
+    }
+    Ok(())
+}
+
+#[test]
+fn a_refusal_is_told(rt: HostRuntime) -> Result<(), Fail> {
+    let (outcome, _sink) = verified(rt.alloc(), &UNCACHED_KNOWN)?;
+    assert!(rt; fault_line(&outcome).as_str() == "bedrock: refused at 11: O11");
+    Ok(())
+}
+
+#[test]
+fn damaged_images(rt: HostRuntime) -> Result<(), Fail> {
+    let alloc = rt.alloc();
+    let cut = UNCACHED.get(..100).ok_or("a hundred bytes")?;
+    let (outcome, _sink) = verified(alloc, cut)?;
+    assert_eq!(rt; numbers(&outcome), [MALFORMED as u64, 1, 100, 0, 11, 0]);
+    let mut longer = UNCACHED.to_vec(alloc)?;
+    longer.push(0)?;
+    let (outcome, _sink) = verified(alloc, &longer)?;
+    assert_eq!(rt; numbers(&outcome), [MALFORMED as u64, 1, 184, 0, 12, 0]);
+    // 277 instructions
+    let mut many = UNCACHED;
+    many[9] = 1;
+    let (outcome, _sink) = verified(alloc, &many)?;
+    assert_eq!(rt; numbers(&outcome), [TOO_LONG as u64, 1, 8, 0, 5, 0]);
+    assert!(rt; fault_line(&outcome).as_str() == "bedrock: too long file 1");
+    Ok(())
+}
+
+#[test]
+fn files_without_bytes(rt: HostRuntime) -> Result<(), Fail> {
+    let alloc = rt.alloc();
+    let mut empty = MemShelf::make(alloc, Vec::new(alloc), Vec::new(alloc));
+    let mut sink = sink(alloc);
+    let outcome = run_plain(alloc, &verify_words(alloc)?, &mut empty, &mut sink);
+    assert_eq!(rt; numbers(&outcome), [ABSENT as u64, 1, 0, 0, 0, 0]);
+    assert!(rt; fault_line(&outcome).as_str() == "bedrock: absent file 1");
+    let outcome = run_plain(alloc, &words(alloc)?, &mut empty, &mut sink);
+    assert_eq!(rt; numbers(&outcome), [ABSENT as u64, 1, 0, 0, 0, 0]);
+    let mut failing = shelf(alloc, &MESI, "", vec![in alloc; 1]?)?;
+    let outcome = run_plain(alloc, &verify_words(alloc)?, &mut failing, &mut sink);
+    assert_eq!(rt; numbers(&outcome), [READ_FAULT as u64, 1, 0, 0, 0, 0]);
+    let (outcome, _sink) = verified(alloc, &Vec::from_elem(alloc, 0, 16_777_217)?)?;
+    assert_eq!(rt; numbers(&outcome), [TOO_LONG as u64, 1, 0, 0, 0, 0]);
+    Ok(())
+}
+
+#[test]
+fn a_verdict_that_is_not_taken(rt: HostRuntime) -> Result<(), Fail> {
+    let alloc = rt.alloc();
+    let mut shelf = shelf(alloc, &MESI, "", Vec::new(alloc))?;
+    let mut sink = MemSink::make(alloc, 4, vec![in alloc; 2]?);
+    let outcome = run_plain(alloc, &verify_words(alloc)?, &mut shelf, &mut sink);
+    assert_eq!(rt; numbers(&outcome), [WRITE_FAULT as u64, 0, 0, 0, 0, 4]);
+    assert!(rt; sink.bytes() == "acce".as_bytes());
+    Ok(())
 }

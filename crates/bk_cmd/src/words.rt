@@ -1,27 +1,40 @@
-ghost use Rattle.std.specs.Prelude.{◌≡◌, MatchOption};
-ghost use Rattle.bk_cmd.specs.Words.{names_of};
+ghost use Rattle.std.specs.Prelude.{◌≡◌, Some, None, MatchOption};
+ghost use Rattle.bk_cmd.specs.Words.{command_of};
+ghost use Rattle.bk_cmd.specs.Told.{told};
 
+/// The first word of a verdict.
+const VERIFY: &str = "verify";
 /// The first word of a replay.
 const REPLAY: &str = "replay";
 /// The second word of a replay by the greedy schedule.
 const SERIAL: &str = "serial";
 
-/// The files that a replay reads.
-#[derive(Drop)]
-pub(crate) struct Names<'a> {
-    pub image: &'a str,
-    pub trace: &'a str,
+/// What a command line asks for, with the names of its files.
+#[derive(Clone, Copy)]
+pub(crate) enum Command<'a> {
+    /// `verify IMAGE`: the verdict on an image.
+    Verify { image: &'a str },
+    /// `replay serial IMAGE TRACE`: the report of the greedy run of an image over a trace.
+    Replay { image: &'a str, trace: &'a str },
 }
 
-/// The two files of `replay serial IMAGE TRACE`, or none where the words are anything else.
-pub(crate) fn names_of(words: &[String]) -> Option<Names<'_>>
-    ensures { MatchOption result (names_of words.now ≡ None) (λ n.
-        names_of words.now ≡ Some (record { image = n.image.now; trace = n.trace.now })) }
+/// The command of the words, or none where they are no command.
+pub(crate) fn command_of(words: &[String]) -> Option<Command<'_>>
+    ensures { MatchOption result (command_of words.now ≡ None) (λ command. command_of words.now ≡ Some (told command)) }
 {
     match words {
+        [command, image] => {
+            if command.as_str() == VERIFY {
+                Some(Command::Verify {
+                    image: image.as_str(),
+                })
+            } else {
+                None
+            }
+        }
         [command, mode, image, trace] => {
             if command.as_str() == REPLAY && mode.as_str() == SERIAL {
-                Some(Names {
+                Some(Command::Replay {
                     image: image.as_str(),
                     trace: trace.as_str(),
                 })

@@ -1,110 +1,62 @@
 -- The two laws: what is read is spelled so, and what is spelled so is read.
-use Rattle.std.proofs.Common.{◌≡◌, ℕ, zero, suc, ◌-◌, ◌^◌, ◌<◌, cond, eqb, List, [], ◌∷◌, ◌++◌, length, drop, Option, Some, None, Result, Ok, Err, refl, sym, ap, subst, ◌∙◌, append_assoc, arith}
+use Rattle.std.proofs.Common.{◌≡◌, ℕ, ◌-◌, ◌≤◌, cond, eqb, List, [], ◌++◌, length, Result, Ok, Err, refl, sym, ap, subst, ◌∙◌, arith}
 use Rattle.std.specs.Prelude.{IfOk}
-use Rattle.std.specs.List.{flat_map, AllByRecursion}
-use Rattle.std.specs.Int.{w64, to_le_bytes}
+use Rattle.std.specs.List.{flat_map}
 use Rattle.std.proofs.lemmas.Bool.{eqb-true}
-use Rattle.std.proofs.lemmas.List.{append-nil, nil_from_length, drop_at}
-use Rattle.std.proofs.lemmas.List.Concat.{flat_map-cons}
+use Rattle.std.proofs.lemmas.List.{append-nil, nil_from_length}
 use Rattle.bk_isa.specs.declared.form.Form.{Form}
-use Rattle.bk_isa.specs.declared.fault.WordFault.{WordFault}
-use Rattle.bk_isa.specs.declared.fields.Fields.{Fields}
-use Rattle.bk_isa.specs.Fields.{form_of, unpack, AreWide}
-use Rattle.bk_isa.specs.Table.{fault_in}
-use Rattle.bk_isa.specs.Words.{IsInRange, encode, decode, unless}
-use Rattle.bk_isa.proofs.Forms.{form_in_range}
-use Rattle.bk_isa.proofs.Words as isa
+use Rattle.bk_image.specs.declared.header.Counts.{Counts}
 use Rattle.bk_image.specs.declared.fault.ImageFault.{ImageFault}
 use Rattle.bk_image.specs.declared.fault.Kind.TheVariants.{Trailing}
-use Rattle.bk_image.specs.Faults.{bad, Gives}
-use Rattle.bk_image.specs.Images.{Parts}
-use Rattle.bk_image.specs.Reading.{◌>>=◌, with_place, number_at, header_at, word_at, words_at, image_at}
-use Rattle.bk_image.specs.Spelling.{header, word, spelling, IsImage}
-use Rattle.bk_image.proofs.Header.{header_takes, header_again}
-use Rattle.bk_image.proofs.Numbers.{IsBytes, bind_ok, holds, ok_is, Takes, Takes-then, wide64, number_takes, number_again}
+use Rattle.bk_image.specs.Faults.{Bad, bad, Gives}
+use Rattle.bk_image.specs.Images.{Parts, Line}
+use Rattle.bk_image.specs.Reading.{◌>>=◌, header_at, words_at, lines_at, image_at}
+use Rattle.bk_image.specs.Spelling.{header, word, line, spelling, IsImage}
+use Rattle.bk_image.proofs.Counted.{header_takes, header_again}
+use Rattle.bk_image.proofs.InstructionWords.{words_take, words_again}
+use Rattle.bk_image.proofs.KnowLines.{lines_take, lines_ascend, lines_again, lines_few}
+use Rattle.bk_image.proofs.Numbers.{IsBytes, bind_ok, holds, ok_is, Takes, Takes-then}
 
--- ---- a word
+-- what follows each of the parts that `image_at` reads
+abbrev at_end : ℕ → List Form → List Line × List ℕ → Result Parts Bad
+at_end total words lines = cond (eqb (length lines.1) 0) (Ok (record { instrs = words; knows = lines.0 })) (Err (bad (total - length lines.1) Trailing))
 
-with_place_ok : (place : ℕ) (r : Result Form WordFault) (f : Form) → with_place place r ≡ Ok f → r ≡ Ok f
-with_place_ok place (Ok g) f e = let same : g ≡ f = ok_is g f e in rw same refl
-with_place_ok place (Err d) f e = absurd cc
+abbrev after_words : ℕ → Counts → List Form × List ℕ → Result Parts Bad
+after_words total counts words = lines_at total counts.instrs counts.knows 0 words.1 >>= at_end total words.0
 
-ok_form : (x y : Form) → unless None x ≡ unless None y → x ≡ y
-ok_form x y e = cc
-
--- the instruction of a word of 64 bits is in range
-range_at : (p : Fields) (o : Option WordFault) (f : Form) → AreWide p → fault_in p ≡ o → unless o (form_of p) ≡ Ok f → IsInRange f
-range_at p None f wide e r = subst (λ (g : Form). IsInRange g) (ok_form (form_of p) f r) (form_in_range p wide e)
-range_at p (Some d) f wide e r = absurd cc
-
-decoded_in_range : (w : ℕ) (f : Form) → w < 2 ^ 64 → decode w ≡ Ok f → IsInRange f
-decoded_in_range w f lt e =
-    range_at (unpack w) (fault_in (unpack w)) f (record { op = omega (arith, lt); a = omega arith; b = omega arith; c = omega arith; imm = omega arith }) refl e
-
-word_takes : (total : ℕ) (bytes : List ℕ) (f : Form) → IsBytes bytes → word_at total bytes ≡ Ok f → Takes bytes (word f) (drop 8 bytes) × IsInRange f
-unfolding word_at
-word_takes total bytes f fits e =
-    let b = bind_ok (number_at w64 total bytes) (λ w. with_place (total - length bytes) (decode w.0)) f e in
-    let t = number_takes wide64 total bytes b.0 fits b.1 in
-    let decoded : decode b.0.0 ≡ Ok f = with_place_ok (total - length bytes) (decode b.0.0) f b.2 in
-    let same : encode f ≡ b.0.0 = isa.found b.0.0 (Ok f) (sym decoded) in
-    let taken : Takes bytes (to_le_bytes w64 b.0.0) (drop 8 bytes) = subst (λ (rest : List ℕ). Takes bytes (to_le_bytes w64 b.0.0) rest) (sym t.rest-is) t.takes in
-    (subst (λ (n : ℕ). Takes bytes (to_le_bytes w64 n) (drop 8 bytes)) (sym same) taken, decoded_in_range b.0.0 f t.small decoded)
-
-encode_small : (f : Form) → IsInRange f → encode f < 2 ^ 64
-encode_small f h = omega (arith, h.wide.op, h.wide.a, h.wide.b, h.wide.c, h.wide.imm)
-
-word_again : (total : ℕ) (f : Form) (rest : List ℕ) → IsInRange f → word_at total (word f ++ rest) ≡ Ok f
-unfolding word_at
-word_again total f rest h =
-    rw (number_again wide64 total (encode f) rest (encode_small f h), isa.decode-encode f h) refl
-
--- ---- words
-
-words_take : (total n : ℕ) (bytes : List ℕ) (x : List Form × List ℕ) → IsBytes bytes → words_at total n bytes ≡ Ok x → Takes bytes (flat_map word x.0) x.1 × (length x.0 ≡ n) × AllByRecursion IsInRange x.0
-unfolding words_at
-words_take total zero bytes x fits e =
-    subst (λ (y : List Form × List ℕ). Takes bytes (flat_map word y.0) y.1 × (length y.0 ≡ 0) × AllByRecursion IsInRange y.0) (ok_is ([], bytes) x e) (record { parts = refl; rest_fits = fits }, refl, tt)
-words_take total (suc n) bytes x fits e =
-    let a = bind_ok (word_at total bytes) (λ first. words_at total n (drop 8 bytes) >>= λ others. Ok (first ∷ others.0, others.1)) x e in
-    let b = bind_ok (words_at total n (drop 8 bytes)) (λ others. Ok (a.0 ∷ others.0, others.1)) x a.2 in
-    let first = word_takes total bytes a.0 fits a.1 in
-    let others = words_take total n (drop 8 bytes) b.0 first.0.rest_fits b.1 in
-    let both = Takes-then first.0 others.0 in
-    let made : List Form × List ℕ = (a.0 ∷ b.0.0, b.0.1) in
-    subst (λ (y : List Form × List ℕ). Takes bytes (flat_map word y.0) y.1 × (length y.0 ≡ suc n) × AllByRecursion IsInRange y.0) (ok_is made x b.2) (rw flat_map-cons both, ap suc others.1, (first.1, others.2))
-
-words_again : (total : ℕ) (fs : List Form) (rest : List ℕ) → AllByRecursion IsInRange fs → words_at total (length fs) (flat_map word fs ++ rest) ≡ Ok (fs, rest)
-unfolding words_at
-words_again total [] rest h = refl
-words_again total (f ∷ fs) rest h =
-    let regrouped : flat_map word (f ∷ fs) ++ rest ≡ word f ++ (flat_map word fs ++ rest) = ap (λ (x : List ℕ). x ++ rest) (flat_map-cons word f fs) ∙ append_assoc (word f) (flat_map word fs) rest in
-    let after : drop 8 (word f ++ (flat_map word fs ++ rest)) ≡ flat_map word fs ++ rest = drop_at (word f) (flat_map word fs ++ rest) 8 refl in
-    ap (words_at total (suc (length fs))) regrouped ∙ rw (word_again total f (flat_map word fs ++ rest) h.0, after, words_again total fs rest h.1) refl
-
--- ---- images
+abbrev after_header : ℕ → Counts × List ℕ → Result Parts Bad
+after_header total counts = words_at total counts.0.instrs counts.1 >>= after_words total counts.0
 
 image_takes : (bytes : List ℕ) (p : Parts) → IsBytes bytes → image_at bytes ≡ Ok p → IsImage p × (bytes ≡ spelling p)
 unfolding image_at
 image_takes bytes p fits e =
-    let a = bind_ok (header_at (length bytes) bytes) (λ count. words_at (length bytes) count.0 count.1 >>= λ words. cond (eqb (length words.1) 0) (Ok (record { instrs = words.0 })) (Err (bad (length bytes - length words.1) Trailing))) p e in
-    let b = bind_ok (words_at (length bytes) a.0.0 a.0.1) (λ words. cond (eqb (length words.1) 0) (Ok (record { instrs = words.0 })) (Err (bad (length bytes - length words.1) Trailing))) p a.2 in
-    let h = holds (eqb (length b.0.1) 0) (bad (length bytes - length b.0.1) Trailing) (Ok (record { instrs = b.0.0 })) p b.2 in
-    let front = header_takes (length bytes) bytes a.0 fits a.1 in
-    let words = words_take (length bytes) a.0.0 a.0.1 b.0 front.0.rest_fits b.1 in
-    let nothing : b.0.1 ≡ [] = nil_from_length b.0.1 (eqb-true _ _ h.0) in
-    let both : bytes ≡ (header a.0.0 ++ flat_map word b.0.0) ++ b.0.1 = (Takes-then front.0 words.0).parts in
-    let whole : bytes ≡ header (length b.0.0) ++ flat_map word b.0.0 = both ∙ ap (λ (r : List ℕ). (header a.0.0 ++ flat_map word b.0.0) ++ r) nothing ∙ append-nil (header a.0.0 ++ flat_map word b.0.0) ∙ ap (λ (n : ℕ). header n ++ flat_map word b.0.0) (sym words.1) in
-    let made : Parts = record { instrs = b.0.0 } in
-    let is_image : IsImage made = record { count = record { some = omega (arith, front.1.0, words.1); few = omega (arith, front.1.1, words.1) }; in_range = words.2 } in
-    subst (λ (q : Parts). IsImage q × (bytes ≡ spelling q)) (ok_is made p h.1) (is_image, whole)
+    let total = length bytes in
+    let a = bind_ok (header_at total bytes) (after_header total) p e in
+    let b = bind_ok (words_at total a.0.0.instrs a.0.1) (after_words total a.0.0) p a.2 in
+    let c = bind_ok (lines_at total a.0.0.instrs a.0.0.knows 0 b.0.1) (at_end total b.0.0) p b.2 in
+    let made : Parts = record { instrs = b.0.0; knows = c.0.0 } in
+    let h = holds (eqb (length c.0.1) 0) (bad (total - length c.0.1) Trailing) (Ok made) p c.2 in
+    let front = header_takes total bytes a.0 fits a.1 in
+    let words = words_take total a.0.0.instrs a.0.1 b.0 front.0.rest_fits b.1 in
+    let lines = lines_take total a.0.0.instrs a.0.0.knows 0 b.0.1 c.0 words.0.rest_fits c.1 in
+    let nothing : c.0.1 ≡ [] = nil_from_length c.0.1 (eqb-true _ _ h.0) in
+    let body = flat_map word b.0.0 ++ flat_map line c.0.0 in
+    let all : Takes bytes (header a.0.0.instrs a.0.0.knows ++ body) c.0.1 = Takes-then front.0 (Takes-then words.0 lines.0) in
+    let whole : bytes ≡ header a.0.0.instrs a.0.0.knows ++ body = all.parts ∙ ap (λ (r : List ℕ). (header a.0.0.instrs a.0.0.knows ++ body) ++ r) nothing ∙ append-nil (header a.0.0.instrs a.0.0.knows ++ body) in
+    let counted : bytes ≡ spelling made = rw (words.1, lines.1) whole in
+    let is_image : IsImage made = record { whole = record { count = record { some = omega (arith, front.1.0, words.1); few = omega (arith, front.1.1, words.1) }; lines = rw words.1 (lines_ascend total a.0.0.instrs a.0.0.knows 0 b.0.1 c.0 c.1) }; in_range = words.2; masks = lines.2 } in
+    subst (λ (q : Parts). IsImage q × (bytes ≡ spelling q)) (ok_is made p h.1) (is_image, counted)
 
 -- what is spelled so is read
 pub image_again : (p : Parts) → IsImage p → image_at (spelling p) ≡ Ok p
 unfolding image_at
 image_again p h =
-    let words : words_at (length (spelling p)) (length p.instrs) (flat_map word p.instrs) ≡ Ok (p.instrs, []) = ap (words_at (length (spelling p)) (length p.instrs)) (sym (append-nil (flat_map word p.instrs))) ∙ words_again (length (spelling p)) p.instrs [] h.in_range in
-    rw (header_again (length (spelling p)) (length p.instrs) (flat_map word p.instrs) h.count.some h.count.few, words) refl
+    let total = length (spelling p) in
+    let counts : Counts = record { instrs = length p.instrs; knows = length p.knows } in
+    let few : length p.knows ≤ length p.instrs = omega (arith, lines_few (length p.instrs) 0 p.knows h.whole.lines) in
+    let lines : lines_at total (length p.instrs) (length p.knows) 0 (flat_map line p.knows) ≡ Ok (p.knows, []) = ap (lines_at total (length p.instrs) (length p.knows) 0) (sym (append-nil (flat_map line p.knows))) ∙ lines_again total (length p.instrs) 0 p.knows [] (omega (arith, h.whole.count.few)) h.whole.lines h.masks in
+    let words : words_at total (length p.instrs) (flat_map word p.instrs ++ flat_map line p.knows) ≡ Ok (p.instrs, flat_map line p.knows) = words_again total p.instrs (flat_map line p.knows) h.in_range in
+    rw (header_again total counts (flat_map word p.instrs ++ flat_map line p.knows) ((h.whole.count.some, h.whole.count.few), few), words, lines) refl
 
 -- what is read is spelled so
 pub is_found : (bytes : List ℕ) (r : Result Parts ImageFault) → IsBytes bytes → Gives (λ i. i) r (image_at bytes) → IfOk r (λ i. IsImage i × (bytes ≡ spelling i))

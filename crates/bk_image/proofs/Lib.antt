@@ -1,5 +1,9 @@
+pub mod Counted
 pub mod Examples
-pub mod Header
+mod Grown
 pub mod Images
+pub mod InstructionWords
+pub mod Known
+pub mod KnowLines
 pub mod Loop
 pub mod Numbers

@@ -1,12 +1,11 @@
 -- The faults of an image's bytes.
 use Rattle.std.specs.Prelude.{◌≡◌, ℕ, Result, Ok, Err}
 use Rattle.bk_image.specs.declared.fault.Kind.{Kind}
-use Rattle.bk_image.specs.declared.fault.Kind.TheVariants.{KnowLines, Magic, Version, ReservedByte, Count, TooMany, Opcode, WordField, WordReserved, Short, Trailing}
+use Rattle.bk_image.specs.declared.fault.Kind.TheVariants.{Magic, Version, ReservedByte, Count, TooMany, Opcode, WordField, WordReserved, KnowLine, NotAscending, Short, Trailing}
 use Rattle.bk_image.specs.declared.fault.ImageFault.{ImageFault}
 use Rattle.bk_image.specs.declared.fault.ImageFault.TheVariants as errors
 
 abbrev pub kind_code : Kind → ℕ
-kind_code KnowLines = 0
 kind_code Magic = 1
 kind_code Version = 2
 kind_code ReservedByte = 3
@@ -15,6 +14,8 @@ kind_code TooMany = 5
 kind_code Opcode = 6
 kind_code WordField = 7
 kind_code WordReserved = 8
+kind_code KnowLine = 9
+kind_code NotAscending = 10
 kind_code Short = 11
 kind_code Trailing = 12
 

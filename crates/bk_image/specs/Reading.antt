@@ -7,9 +7,12 @@ use Rattle.bk_isa.specs.declared.fault.WordFault.{WordFault}
 use Rattle.bk_isa.specs.declared.fault.WordFault.TheVariants as words
 use Rattle.bk_isa.specs.Words.{decode}
 use Rattle.bk_image.specs.declared.fault.Kind.{Kind}
-use Rattle.bk_image.specs.declared.fault.Kind.TheVariants.{KnowLines, Magic, Version, ReservedByte, Count, TooMany, Opcode, WordField, WordReserved, Short, Trailing}
+use Rattle.bk_image.specs.declared.fault.Kind.TheVariants.{Magic, Version, ReservedByte, Count, TooMany, Opcode, WordField, WordReserved, KnowLine, NotAscending, Short, Trailing}
 use Rattle.bk_image.specs.Faults.{Bad, bad}
-use Rattle.bk_image.specs.Images.{Parts}
+use Rattle.bk_know.specs.declared.sets.Sets.{Sets}
+use Rattle.bk_know.specs.Sets.{sets_of, any_empty}
+use Rattle.bk_image.specs.Images.{Parts, Line}
+use Rattle.bk_image.specs.declared.header.Counts.{Counts}
 
 infixl 10 ◌>>=◌
 abbrev pub ◌>>=◌ : {A B : Type 0} → Result A Bad → (A → Result B Bad) → Result B Bad
@@ -31,28 +34,28 @@ count_at total bytes = do
   count ← number_at w32 total bytes
   if count.0 == 0 then Err (bad (total - length bytes) Count) else if nat_lt 256 count.0 then Err (bad (total - length bytes) TooMany) else Ok count
 
--- the count of know lines, at most that of instructions; none is read yet
+-- the count of know lines, at most that of instructions
 unfoldable pub know_count_at : ℕ → ℕ → List ℕ → Result (ℕ × List ℕ) Bad
-know_count_at count total bytes = do
+know_count_at instrs total bytes = do
   knows ← number_at w32 total bytes
-  if nat_lt count knows.0 then Err (bad (total - length bytes) Count) else if knows.0 == 0 then Ok knows else Err (bad (total - length bytes) KnowLines)
+  if nat_lt instrs knows.0 then Err (bad (total - length bytes) Count) else Ok knows
 
--- the version, three bytes 0 and the two counts: the count of instructions
-unfoldable pub counts_at : ℕ → List ℕ → Result (ℕ × List ℕ) Bad
+-- the version, three bytes 0 and the two counts
+unfoldable pub counts_at : ℕ → List ℕ → Result (Counts × List ℕ) Bad
 counts_at total bytes = do
   version ← byte_at 1 Version total bytes
   first ← byte_at 0 ReservedByte total version.1
   second ← byte_at 0 ReservedByte total first.1
   third ← byte_at 0 ReservedByte total second.1
-  count ← count_at total third.1
-  knows ← know_count_at count.0 total count.1
-  Ok (count.0, knows.1)
+  instrs ← count_at total third.1
+  knows ← know_count_at instrs.0 total instrs.1
+  Ok (record { instrs = instrs.0; knows = knows.0 }, knows.1)
 
 abbrev pub magic_number : ℕ
 magic_number = from_le_bytes w32 (codes "BKUC")
 
--- the magic and what stands before the words: the count of instructions
-unfoldable pub header_at : ℕ → List ℕ → Result (ℕ × List ℕ) Bad
+-- the magic and what stands before the words: the two counts
+unfoldable pub header_at : ℕ → List ℕ → Result (Counts × List ℕ) Bad
 header_at total bytes = do
   magic ← number_at w32 total bytes
   if magic.0 == magic_number then counts_at total magic.1 else Err (bad (total - length bytes) Magic)
@@ -84,9 +87,30 @@ words_at total (suc n) bytes = do
   others ← words_at total n (drop 8 bytes)
   Ok (first ∷ others.0, others.1)
 
+-- what is known by the mask of the first eight bytes: no field of it is empty
+unfoldable pub mask_at : ℕ → List ℕ → Result Sets Bad
+mask_at total bytes = do
+  mask ← number_at w64 total bytes
+  if any_empty (sets_of mask.0) then Err (bad (total - length bytes) KnowLine) else Ok (sets_of mask.0)
+
+-- the know line of the first twelve bytes: its place is below the count of instructions, and not below the least one that may come
+unfoldable pub line_at : ℕ → ℕ → ℕ → List ℕ → Result Line Bad
+line_at total instrs least bytes = do
+  place ← number_at w32 total bytes
+  if nat_lt place.0 instrs then (if nat_lt place.0 least then Err (bad (total - length bytes) NotAscending) else (mask_at total place.1 >>= λ sets. Ok (place.0, sets))) else Err (bad (total - length bytes) KnowLine)
+
+-- as many know lines as the count says
+unfoldable pub lines_at : ℕ → ℕ → ℕ → ℕ → List ℕ → Result (List Line × List ℕ) Bad
+lines_at total instrs zero least bytes = Ok ([], bytes)
+lines_at total instrs (suc n) least bytes = do
+  first ← line_at total instrs least bytes
+  others ← lines_at total instrs n (first.0 + 1) (drop 12 bytes)
+  Ok (first ∷ others.0, others.1)
+
 -- the image that all of the bytes spell, or the first fault
 unfoldable pub image_at : List ℕ → Result Parts Bad
 image_at bytes = do
-  count ← header_at (length bytes) bytes
-  words ← words_at (length bytes) count.0 count.1
-  if length words.1 == 0 then Ok (record { instrs = words.0 }) else Err (bad (length bytes - length words.1) Trailing)
+  counts ← header_at (length bytes) bytes
+  words ← words_at (length bytes) counts.0.instrs counts.1
+  lines ← lines_at (length bytes) counts.0.instrs counts.0.knows 0 words.1
+  if length lines.1 == 0 then Ok (record { instrs = words.0; knows = lines.0 }) else Err (bad (length bytes - length lines.1) Trailing)

@@ -8,8 +8,6 @@ use thiserror::Error;
 /// What is wrong with the bytes of an image.
 #[derive(Clone, Copy, Debug, PartialEq, Eq)]
 pub enum Kind {
-    /// Know lines stand in the image, and they aren't read yet.
-    KnowLines,
     /// The image doesn't begin with `BKUC`.
     Magic,
     /// The version isn't 1.
@@ -26,6 +24,11 @@ pub enum Kind {
     WordField,
     /// A field of an instruction word is no operand and isn't 0.
     WordReserved,
+    /// The place of a know line is not below the count of instructions, or a field of its mask has
+    /// no value.
+    KnowLine,
+    /// The place of a know line is not above that of the know line before it.
+    NotAscending,
     /// The bytes end within a field.
     Short,
     /// Bytes stand behind the last field.
@@ -38,7 +41,6 @@ impl Kind {
         ensures { result ≡ kind_code self }
     {
         match self {
-            Kind::KnowLines => 0,
             Kind::Magic => 1,
             Kind::Version => 2,
             Kind::ReservedByte => 3,
@@ -47,6 +49,8 @@ impl Kind {
             Kind::Opcode => 6,
             Kind::WordField => 7,
             Kind::WordReserved => 8,
+            Kind::KnowLine => 9,
+            Kind::NotAscending => 10,
             Kind::Short => 11,
             Kind::Trailing => 12,
         }

@@ -50,9 +50,10 @@ impl Instr {
     }
 }
 
-/// The one word of an instruction.
+/// The one word of an instruction, whose operands are all in range.
 pub fn word_of(instr: Instr) -> u64
-    ensures { result ≡ encode instr }
+    ensures value { result ≡ encode instr }
+    ensures in_range { IsInRange instr }
 {
     pack(fields_of(instr.form))
 }

@@ -1,5 +1,5 @@
 -- The sets of values that each field may have, their mask, their order and their union.
-use Rattle.std.specs.Prelude.{ℕ, ◌+◌, ◌-◌, ◌*◌, ◌/◌, ◌%◌, ◌^◌, ◌==◌, ◌≡◌, Bool, ◌&&◌, ◌||◌, bit_and, bit_or, if◌then◌else◌}
+use Rattle.std.specs.Prelude.{ℕ, ◌+◌, ◌-◌, ◌*◌, ◌/◌, ◌%◌, ◌^◌, ◌==◌, ◌≡◌, ◌<◌, Bool, false, ◌&&◌, ◌||◌, bit_and, bit_or, if◌then◌else◌}
 use Rattle.bk_know.specs.declared.sets.Sets.{Sets}
 
 -- a mask's sets: each field begins at its bit and has a bit for each value
@@ -55,6 +55,12 @@ any_empty s = front_empty s || back_empty s
 -- field by field the values of both
 abbrev pub union : Sets → Sets → Sets
 union a b = record { stage = bit_or a.stage b.stage; head = bit_or a.head b.head; gp = bit_or a.gp b.gp; kind = bit_or a.kind b.kind; summ = bit_or a.summ b.summ; own = bit_or a.own b.own; owner = bit_or a.owner b.owner; others = bit_or a.others b.others; victim = bit_or a.victim b.victim; acks = bit_or a.acks b.acks; wb = bit_or a.wb b.wb; mem = bit_or a.mem b.mem; dreq = bit_or a.dreq b.dreq; down = bit_or a.down b.down; f0 = bit_or a.f0 b.f0; f1 = bit_or a.f1 b.f1; f2 = bit_or a.f2 b.f2; f3 = bit_or a.f3 b.f3 }
+
+-- a mask of 64 bits has these sets, and none of them is empty
+pub record IsKnow (s : Sets) : Type 0 where
+  pub small : mask_of s < 2 ^ 64
+  pub again : sets_of (mask_of s) ≡ s
+  pub some : any_empty s ≡ false
 
 -- a value, counted from 0 in its field's order, is in a set
 abbrev pub Has : ℕ → ℕ → Type 0

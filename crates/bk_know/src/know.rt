@@ -1,5 +1,5 @@
 ghost use Rattle.std.specs.Prelude.{◌≡◌, ◌<◌, ◌≤◌, ◌↔◌, ◌==◌, IfSome, IsNone, true, false};
-ghost use Rattle.bk_know.specs.Sets.{sets_of, mask_of, field, within, union, any_empty, idle, held};
+ghost use Rattle.bk_know.specs.Sets.{sets_of, mask_of, field, within, union, any_empty, idle, held, IsKnow};
 
 use crate::sets::{Sets, any_empty, field, within};
 use std::marker::Model;
@@ -147,6 +147,7 @@ impl Know {
     pub fn mask(self) -> u64
         ensures value { result ≡ mask_of self }
         ensures sets { sets_of result ≡ self }
+        ensures know { IsKnow self }
     {
         self.mask
     }

@@ -1,16 +1,17 @@
 -- A header that is read is the one that was written, and what was written is read again.
-use Rattle.std.proofs.Common.{◌≡◌, ℕ, zero, suc, ◌-◌, ◌≤◌, false, cond, ltb, eqb, List, [], ◌∷◌, ◌++◌, length, Result, Ok, Err, refl, ap, subst, ◌∙◌, append_assoc, arith}
+use Rattle.std.proofs.Common.{◌≡◌, ℕ, zero, suc, ◌-◌, ◌<◌, ◌≤◌, ◌^◌, false, cond, ltb, eqb, List, [], ◌∷◌, ◌++◌, length, Result, Ok, Err, refl, ap, subst, ◌∙◌, append_assoc, arith}
 use Rattle.std.specs.Prelude.{codes}
 use Rattle.std.specs.Int.{w32, to_le_bytes}
 use Rattle.std.proofs.lemmas.Bool.{eqb-true, ltb-false, le-ltb, ne_eqb}
-use Rattle.bk_image.specs.declared.fault.Kind.TheVariants.{KnowLines, Magic, Version, ReservedByte, Count, TooMany}
+use Rattle.bk_image.specs.declared.fault.Kind.TheVariants.{Magic, Version, ReservedByte, Count, TooMany}
+use Rattle.bk_image.specs.declared.header.Counts.{Counts}
 use Rattle.bk_image.specs.Faults.{Bad, bad}
 use Rattle.bk_image.specs.Reading.{◌>>=◌, number_at, byte_at, magic_number, count_at, know_count_at, counts_at, header_at}
 use Rattle.bk_image.specs.Spelling.{header}
 use Rattle.bk_image.proofs.Numbers.{IsBytes, bind_ok, fails_not, holds, ok_is, Takes, Takes-then, wide32, number_takes, number_again, byte_takes}
 
 abbrev Read : Type 0
-Read = Result (ℕ × List ℕ) Bad
+Read = Result (Counts × List ℕ) Bad
 
 -- a count of instructions
 abbrev pub IsCount : ℕ → Type 0
@@ -29,20 +30,17 @@ count_takes total bytes x fits e =
     let t = number_takes wide32 total bytes b.0 fits b.1 in
     subst (λ (y : ℕ × List ℕ). Takes bytes (to_le_bytes w32 y.0) y.1 × IsCount y.0) (ok_is b.0 x h.1) (t.takes, is_count b.0.0 g.0 h.0)
 
-know_count_takes : (count total : ℕ) (bytes : List ℕ) (x : ℕ × List ℕ) → IsBytes bytes → know_count_at count total bytes ≡ Ok x → Takes bytes (to_le_bytes w32 0) x.1
+know_count_takes : (instrs total : ℕ) (bytes : List ℕ) (x : ℕ × List ℕ) → IsBytes bytes → know_count_at instrs total bytes ≡ Ok x → Takes bytes (to_le_bytes w32 x.0) x.1
 unfolding know_count_at
-know_count_takes count total bytes x fits e =
-    let b = bind_ok (number_at w32 total bytes) (λ knows. cond (ltb count knows.0) (Err (bad (total - length bytes) Count)) (cond (eqb knows.0 0) (Ok knows) (Err (bad (total - length bytes) KnowLines)))) x e in
-    let g = fails_not (ltb count b.0.0) (bad (total - length bytes) Count) (cond (eqb b.0.0 0) (Ok b.0) (Err (bad (total - length bytes) KnowLines))) x b.2 in
-    let h = holds (eqb b.0.0 0) (bad (total - length bytes) KnowLines) (Ok b.0) x g.1 in
-    let none : b.0.0 ≡ 0 = eqb-true _ _ h.0 in
+know_count_takes instrs total bytes x fits e =
+    let b = bind_ok (number_at w32 total bytes) (λ knows. cond (ltb instrs knows.0) (Err (bad (total - length bytes) Count)) (Ok knows)) x e in
+    let g = fails_not (ltb instrs b.0.0) (bad (total - length bytes) Count) (Ok b.0) x b.2 in
     let t = number_takes wide32 total bytes b.0 fits b.1 in
-    let taken : Takes bytes (to_le_bytes w32 0) b.0.1 = subst (λ (n : ℕ). Takes bytes (to_le_bytes w32 n) b.0.1) none t.takes in
-    subst (λ (y : ℕ × List ℕ). Takes bytes (to_le_bytes w32 0) y.1) (ok_is b.0 x h.1) taken
+    subst (λ (y : ℕ × List ℕ). Takes bytes (to_le_bytes w32 y.0) y.1) (ok_is b.0 x g.1) t.takes
 
 -- what follows each of the fields that `counts_at` reads
 abbrev after_count : ℕ → ℕ × List ℕ → Read
-after_count total count = know_count_at count.0 total count.1 >>= λ knows. Ok (count.0, knows.1)
+after_count total instrs = know_count_at instrs.0 total instrs.1 >>= λ knows. Ok (record { instrs = instrs.0; knows = knows.0 }, knows.1)
 
 abbrev after_third : ℕ → ℕ × List ℕ → Read
 after_third total third = count_at total third.1 >>= after_count total
@@ -56,10 +54,10 @@ after_first total first = byte_at 0 ReservedByte total first.1 >>= after_second 
 abbrev after_version : ℕ → ℕ × List ℕ → Read
 after_version total version = byte_at 0 ReservedByte total version.1 >>= after_first total
 
-abbrev counts : ℕ → List ℕ
-counts count = (1 ∷ 0 ∷ 0 ∷ 0 ∷ []) ++ to_le_bytes w32 count ++ to_le_bytes w32 0
+abbrev counts : Counts → List ℕ
+counts n = (1 ∷ 0 ∷ 0 ∷ 0 ∷ []) ++ to_le_bytes w32 n.instrs ++ to_le_bytes w32 n.knows
 
-counts_take : (total : ℕ) (bytes : List ℕ) (x : ℕ × List ℕ) → IsBytes bytes → counts_at total bytes ≡ Ok x → Takes bytes (counts x.0) x.1 × IsCount x.0
+counts_take : (total : ℕ) (bytes : List ℕ) (x : Counts × List ℕ) → IsBytes bytes → counts_at total bytes ≡ Ok x → Takes bytes (counts x.0) x.1 × IsCount x.0.instrs
 unfolding counts_at
 counts_take total bytes x fits e =
     let v = bind_ok (byte_at 1 Version total bytes) (after_version total) x e in
@@ -67,17 +65,18 @@ counts_take total bytes x fits e =
     let b = bind_ok (byte_at 0 ReservedByte total a.0.1) (after_second total) x a.2 in
     let c = bind_ok (byte_at 0 ReservedByte total b.0.1) (after_third total) x b.2 in
     let n = bind_ok (count_at total c.0.1) (after_count total) x c.2 in
-    let k = bind_ok (know_count_at n.0.0 total n.0.1) (λ knows. Ok (n.0.0, knows.1)) x n.2 in
+    let k = bind_ok (know_count_at n.0.0 total n.0.1) (λ knows. Ok (record { instrs = n.0.0; knows = knows.0 }, knows.1)) x n.2 in
     let version = byte_takes 1 Version total bytes v.0 fits v.1 in
     let first = byte_takes 0 ReservedByte total v.0.1 a.0 version.rest_fits a.1 in
     let second = byte_takes 0 ReservedByte total a.0.1 b.0 first.rest_fits b.1 in
     let third = byte_takes 0 ReservedByte total b.0.1 c.0 second.rest_fits c.1 in
-    let count = count_takes total c.0.1 n.0 third.rest_fits n.1 in
-    let knows = know_count_takes n.0.0 total n.0.1 k.0 count.0.rest_fits k.1 in
-    let all : Takes bytes (counts n.0.0) k.0.1 = Takes-then version (Takes-then first (Takes-then second (Takes-then third (Takes-then count.0 knows)))) in
-    subst (λ (y : ℕ × List ℕ). Takes bytes (counts y.0) y.1 × IsCount y.0) (ok_is (n.0.0, k.0.1) x k.2) (all, count.1)
+    let instrs = count_takes total c.0.1 n.0 third.rest_fits n.1 in
+    let knows = know_count_takes n.0.0 total n.0.1 k.0 instrs.0.rest_fits k.1 in
+    let made : Counts × List ℕ = (record { instrs = n.0.0; knows = k.0.0 }, k.0.1) in
+    let all : Takes bytes (counts made.0) made.1 = Takes-then version (Takes-then first (Takes-then second (Takes-then third (Takes-then instrs.0 knows)))) in
+    subst (λ (y : Counts × List ℕ). Takes bytes (counts y.0) y.1 × IsCount y.0.instrs) (ok_is made x k.2) (all, instrs.1)
 
-pub header_takes : (total : ℕ) (bytes : List ℕ) (x : ℕ × List ℕ) → IsBytes bytes → header_at total bytes ≡ Ok x → Takes bytes (header x.0) x.1 × IsCount x.0
+pub header_takes : (total : ℕ) (bytes : List ℕ) (x : Counts × List ℕ) → IsBytes bytes → header_at total bytes ≡ Ok x → Takes bytes (header x.0.instrs x.0.knows) x.1 × IsCount x.0.instrs
 unfolding header_at
 header_takes total bytes x fits e =
     let m = bind_ok (number_at w32 total bytes) (λ magic. cond (eqb magic.0 magic_number) (counts_at total magic.1) (Err (bad (total - length bytes) Magic))) x e in
@@ -96,20 +95,23 @@ count_again total n rest some few =
     let not_more : ltb 256 n ≡ false = le-ltb _ _ few in
     rw (number_again wide32 total n rest (omega (arith, few)), not_none, not_more) refl
 
-know_count_again : (count total : ℕ) (rest : List ℕ) → know_count_at count total (to_le_bytes w32 0 ++ rest) ≡ Ok (0, rest)
+know_count_again : (instrs total n : ℕ) (rest : List ℕ) → n ≤ instrs → n < 2 ^ 32 → know_count_at instrs total (to_le_bytes w32 n ++ rest) ≡ Ok (n, rest)
 unfolding know_count_at
-know_count_again count total rest =
-    let not_more : ltb count 0 ≡ false = le-ltb _ _ (omega arith) in
-    rw (number_again wide32 total 0 rest (omega arith), not_more) refl
+know_count_again instrs total n rest few small =
+    let not_more : ltb instrs n ≡ false = le-ltb _ _ few in
+    rw (number_again wide32 total n rest small, not_more) refl
 
-counts_again : (total n : ℕ) (rest : List ℕ) → 1 ≤ n → n ≤ 256 → counts_at total (1 ∷ 0 ∷ 0 ∷ 0 ∷ (to_le_bytes w32 n ++ (to_le_bytes w32 0 ++ rest))) ≡ Ok (n, rest)
+abbrev pub AreCounts : Counts → Type 0
+AreCounts n = IsCount n.instrs × (n.knows ≤ n.instrs)
+
+counts_again : (total : ℕ) (n : Counts) (rest : List ℕ) → AreCounts n → counts_at total (1 ∷ 0 ∷ 0 ∷ 0 ∷ (to_le_bytes w32 n.instrs ++ (to_le_bytes w32 n.knows ++ rest))) ≡ Ok (n, rest)
 unfolding counts_at
-counts_again total n rest some few =
-    rw (count_again total n (to_le_bytes w32 0 ++ rest) some few, know_count_again n total rest) refl
+counts_again total n rest h =
+    rw (count_again total n.instrs (to_le_bytes w32 n.knows ++ rest) h.0.0 h.0.1, know_count_again n.instrs total n.knows rest h.1 (omega (arith, h.1, h.0.1))) refl
 
-pub header_again : (total n : ℕ) (rest : List ℕ) → 1 ≤ n → n ≤ 256 → header_at total (header n ++ rest) ≡ Ok (n, rest)
+pub header_again : (total : ℕ) (n : Counts) (rest : List ℕ) → AreCounts n → header_at total (header n.instrs n.knows ++ rest) ≡ Ok (n, rest)
 unfolding header_at
-header_again total n rest some few =
-    let after = 1 ∷ 0 ∷ 0 ∷ 0 ∷ (to_le_bytes w32 n ++ (to_le_bytes w32 0 ++ rest)) in
-    let regrouped : header n ++ rest ≡ to_le_bytes w32 magic_number ++ after = ap (λ (t : List ℕ). codes "BKUC" ++ (1 ∷ 0 ∷ 0 ∷ 0 ∷ t)) (append_assoc (to_le_bytes w32 n) (to_le_bytes w32 0) rest) in
-    ap (header_at total) regrouped ∙ rw (number_again wide32 total magic_number after (omega arith), counts_again total n rest some few) refl
+header_again total n rest h =
+    let after = 1 ∷ 0 ∷ 0 ∷ 0 ∷ (to_le_bytes w32 n.instrs ++ (to_le_bytes w32 n.knows ++ rest)) in
+    let regrouped : header n.instrs n.knows ++ rest ≡ to_le_bytes w32 magic_number ++ after = ap (λ (t : List ℕ). codes "BKUC" ++ (1 ∷ 0 ∷ 0 ∷ 0 ∷ t)) (append_assoc (to_le_bytes w32 n.instrs) (to_le_bytes w32 n.knows) rest) in
+    ap (header_at total) regrouped ∙ rw (number_again wide32 total magic_number after (omega arith), counts_again total n rest h) refl

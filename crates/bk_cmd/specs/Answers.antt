@@ -1,0 +1,34 @@
+-- What a command of one file says of its bytes.
+use Rattle.std.specs.Prelude.{◌≡◌, ℕ, List, codes, Result, Ok, Err}
+use Rattle.bk_image.specs.Faults.{Bad}
+use Rattle.bk_image.specs.Images.{Parts}
+use Rattle.bk_image.specs.Reading.{image_at}
+use Rattle.bk_check.specs.Accepted.{Accepted, IsFirstUnmet}
+
+abbrev pub bad_at : ℕ → ℕ → Bad
+bad_at at kind = record { place = at; kind = kind }
+
+pub data Answer : Type 0 where
+  -- these bytes are due
+  Due : (text : List ℕ) → Answer
+  -- the image is refused: the least instruction with an unmet obligation, and the least such
+  Refuses : (at obligation : ℕ) → Answer
+  -- the file is not of its grammar
+  Fault : (at column kind : ℕ) → Answer
+
+-- `accepted` and a line's end
+abbrev pub accepted_text : List ℕ
+accepted_text = codes "accepted\n"
+
+-- the verdict on an image, or on bytes that are none
+abbrev pub VerdictOn : Result Parts Bad → Answer → Type 0
+VerdictOn (Ok image) (Due text) = Accepted image × (text ≡ accepted_text)
+VerdictOn (Ok image) (Refuses at obligation) = IsFirstUnmet image at obligation
+VerdictOn (Ok image) (Fault at column kind) = ⊥
+VerdictOn (Err bad) (Due text) = ⊥
+VerdictOn (Err bad) (Refuses at obligation) = ⊥
+VerdictOn (Err bad) (Fault at column kind) = (bad ≡ bad_at at kind) × (column ≡ 0)
+
+-- what `verify` says of a file's bytes
+abbrev pub VerifySays : List ℕ → Answer → Type 0
+VerifySays bytes answer = VerdictOn (image_at bytes) answer

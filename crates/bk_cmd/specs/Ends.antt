@@ -1,0 +1,48 @@
+-- How a command ends, status by status.
+use Rattle.std.specs.Prelude.{◌≡◌, ℕ, ◌⊎◌, List, [], Option, String, IsSomeAnd}
+use Rattle.std.specs.Global.{Global}
+use Rattle.bk_cmd.specs.declared.outcome.Outcome.{Outcome}
+use Rattle.bk_cmd.specs.Answers.{Due, Refuses}
+use Rattle.bk_cmd.specs.Inputs.{Files}
+use Rattle.bk_cmd.specs.Replays.{OfInputs, AreEvents, EndsShort, Reported, ReportedPart}
+use Rattle.bk_cmd.specs.Stops.{Says, IsBad}
+use Rattle.bk_cmd.specs.Words.{Command, Verify, Replay, command_of}
+use Rattle.bk_cmd.specs.Writes.{Wrote, WrotePart}
+
+-- the words are a command, of which this holds
+abbrev pub OfCommand : List (String Global) → (Command → Type 0) → Type 0
+OfCommand words Holds = IsSomeAnd (command_of words) Holds
+
+-- what the command says of its file is due, and something holds of that
+pub record SaysText (files : Files) (command : Command) (Holds : List ℕ → Type 0) : Type 0 where
+  pub text : List ℕ
+  pub says : Says files command (Due text)
+  pub holds : Holds text
+
+-- status 0: the sink took all that is due
+abbrev pub EndsWhole : Files → Command → Outcome → Option (List ℕ) → Option (List ℕ) → Type 0
+EndsWhole files (Verify image) o before after = SaysText files (Verify image) (λ text. Wrote text o before after)
+EndsWhole files (Replay image trace) o before after = OfInputs files image trace (λ i t. Reported i t o before after)
+
+-- status 7, and 1 where something was written: the sink took the first bytes of what is due, as many as are told, and no more
+abbrev pub EndsInPart : Files → Command → Outcome → Option (List ℕ) → Option (List ℕ) → Type 0
+EndsInPart files (Verify image) o before after = SaysText files (Verify image) (λ text. WrotePart text o before after)
+EndsInPart files (Replay image trace) o before after = OfInputs files image trace (λ i t. ReportedPart i t o before after)
+
+-- status 3: the refusal is the verdict on the file
+abbrev pub EndsRefused : Files → Command → Outcome → Type 0
+EndsRefused files command o = IsSomeAnd o.refusal (λ refusal. Says files command (Refuses refusal.at refusal.obligation))
+
+-- status 4, and 8 where a list of the file is over its limit: the file has this fault
+abbrev pub EndsBad : Files → Command → Outcome → Type 0
+EndsBad files command o = IsBad files command o.file o.at o.column o.kind
+
+-- status 9: a run that is not complete
+abbrev pub EndsSpent : Files → Command → Outcome → Type 0
+EndsSpent files (Verify image) o = ⊥
+EndsSpent files (Replay image trace) o = OfInputs files image trace (λ i t. EndsShort i t o.events.items)
+
+-- events are told only of a run, and then all of them
+abbrev pub TellsEvents : Files → Command → Outcome → Type 0
+TellsEvents files (Verify image) o = o.events.items ≡ []
+TellsEvents files (Replay image trace) o = (o.events.items ≡ []) ⊎ OfInputs files image trace (λ i t. AreEvents i t o.events.items)

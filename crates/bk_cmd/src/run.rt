@@ -1,0 +1,112 @@
+//! Doing what a command line asks for.
+
+ghost use Rattle.std.specs.Prelude.{◌≡◌, ◌≤◌, ◌<◌, ◌⊎◌, ◌↔◌, None, true, false, IsTrue};
+ghost use Rattle.bk_outer.specs.Counts.{Rose};
+ghost use Rattle.bk_cmd.specs.Ends.{OfCommand, EndsWhole, EndsInPart, EndsRefused, EndsBad, EndsSpent, TellsEvents};
+ghost use Rattle.bk_cmd.specs.Outcomes.{LeavesRest, is_status, is_after_write, is_limit};
+ghost use Rattle.bk_cmd.specs.Stops.{IsMissing};
+ghost use Rattle.bk_cmd.specs.Words.{command_of};
+ghost use Rattle.bk_cmd.specs.declared.outcome.Unread.TheVariants as unread;
+
+use crate::answers::verify;
+use crate::inputs::inputs_of;
+use crate::outcome::{
+    ABSENT, MALFORMED, MEMORY, OK, Outcome, READ_FAULT, REFUSED, SPENT, Stop, TOO_LONG, USAGE,
+    WRITE_FAULT, stopped,
+};
+use crate::replay::replay;
+use crate::words::{Command, command_of};
+use crate::writing::deliver;
+use bk_outer::{Shelf, Sink};
+use std::alloc::Global;
+
+/// Does what the words ask for, with the files of the shelf, and writes to the sink what is due:
+///
+/// - `verify IMAGE`: `accepted` and a line's end, where the image is accepted (`docs/OBLIGATIONS.md`);
+/// - `replay serial IMAGE TRACE`: the report of the greedy run of the image over the trace.
+///
+/// The words are judged first. Then each file is read and checked, in their order; `verify` gives its
+/// verdict, and a replay makes its run; then comes the writing. What is met first is answered, by a status:
+///
+/// - `OK`: the sink took all that is due, and a run is complete;
+/// - `MEMORY`: memory ran out, at any moment after the words;
+/// - `USAGE`: the words are no command;
+/// - `REFUSED`: the image is not accepted, by `refusal`;
+/// - `MALFORMED`: a file is not of its grammar, or holds what isn't run yet;
+/// - `ABSENT`: there is no such file;
+/// - `READ_FAULT`: a file could not be read;
+/// - `WRITE_FAULT`: the sink failed, and took `written` bytes of what is due;
+/// - `TOO_LONG`: a file has too many bytes, or an image too many instructions;
+/// - `SPENT`: the run ended and is not complete.
+pub fn run_plain<H: Shelf, K: Sink>(
+    alloc: Global,
+    words: &[String],
+    shelf: &mut H,
+    sink: &mut K,
+) -> Outcome
+    ensures status { IsTrue (is_status result.status) }
+
+    // Exactly the words that are no command are answered so, before anything else.
+    ensures usage { (result.status ≡ USAGE) ↔ (command_of words.now ≡ None) }
+    ensures unread { result.status ≡ USAGE → shelf.new ≡ shelf.old }
+
+    // All that is due of the files was written, and nothing else.
+    ensures ok { result.status ≡ OK → OfCommand words.now (λ command.
+        EndsWhole (H.files shelf.old) command result (K.taken sink.old) (K.taken sink.new)) }
+
+    // The first bytes of what is due were written, as many as are told, and nothing else.
+    ensures write_fault { result.status ≡ WRITE_FAULT → OfCommand words.now (λ command.
+        EndsInPart (H.files shelf.old) command result (K.taken sink.old) (K.taken sink.new)) }
+    ensures write_counted { result.status ≡ WRITE_FAULT → Rose (K.faults sink.old) (K.faults sink.new) }
+    ensures memory_part { result.status ≡ MEMORY → 0 < result.written → OfCommand words.now (λ command.
+        EndsInPart (H.files shelf.old) command result (K.taken sink.old) (K.taken sink.new)) }
+    ensures memory_none { result.status ≡ MEMORY → result.written ≡ 0 → K.taken sink.new ≡ K.taken sink.old }
+
+    // The verdict on an image, and a run that is not complete.
+    ensures refused { result.status ≡ REFUSED → OfCommand words.now (λ command.
+        EndsRefused (H.files shelf.old) command result) }
+    ensures spent { result.status ≡ SPENT → OfCommand words.now (λ command.
+        EndsSpent (H.files shelf.old) command result) }
+    ensures events { OfCommand words.now (λ command. TellsEvents (H.files shelf.old) command result)
+        ⊎ (command_of words.now ≡ None) }
+
+    // The first fault of a file; one that a list is over its limit has a status of its own.
+    ensures malformed { result.status ≡ MALFORMED → OfCommand words.now (λ command.
+        EndsBad (H.files shelf.old) command result) }
+    ensures within_limits { result.status ≡ MALFORMED → is_limit result.kind ≡ false }
+    ensures over_limit { result.status ≡ TOO_LONG → is_limit result.kind ≡ true → OfCommand words.now (λ command.
+        EndsBad (H.files shelf.old) command result) }
+
+    // A file that gave no bytes, and what the shelf counted.
+    ensures absent { result.status ≡ ABSENT → OfCommand words.now (λ command.
+        IsMissing (H.files shelf.old) command result.file
+        (Rose (H.faults shelf.old) (H.faults shelf.new)) (Rose (H.misses shelf.old) (H.misses shelf.new)) unread.Absent) }
+    ensures read_fault { result.status ≡ READ_FAULT → OfCommand words.now (λ command.
+        IsMissing (H.files shelf.old) command result.file
+        (Rose (H.faults shelf.old) (H.faults shelf.new)) (Rose (H.misses shelf.old) (H.misses shelf.new)) unread.Failed) }
+    ensures too_long { result.status ≡ TOO_LONG → is_limit result.kind ≡ false → OfCommand words.now (λ command.
+        IsMissing (H.files shelf.old) command result.file
+        (Rose (H.faults shelf.old) (H.faults shelf.new)) (Rose (H.misses shelf.old) (H.misses shelf.new)) unread.TooLong) }
+
+    // What stays: the sink where nothing is written, the shelf's files; no count falls.
+    ensures unwritten { is_after_write result.status ≡ false → sink.new ≡ sink.old }
+    ensures rest { LeavesRest result }
+    ensures same_files { H.files shelf.new ≡ H.files shelf.old }
+    ensures read_faults_kept { H.faults shelf.old ≤ H.faults shelf.new }
+    ensures misses_kept { H.misses shelf.old ≤ H.misses shelf.new }
+    ensures write_faults_kept { K.faults sink.old ≤ K.faults sink.new }
+{
+    let Some(command) = command_of(words) else {
+        return stopped(alloc, Stop::Usage);
+    };
+    match command {
+        Command::Verify { image } => match verify(alloc, shelf, image) {
+            Ok(text) => deliver(sink, &text, Vec::new(alloc)),
+            Err(stop) => stopped(alloc, stop),
+        },
+        Command::Replay { image, trace } => match inputs_of(alloc, shelf, image, trace) {
+            Ok(inputs) => replay(alloc, &inputs, sink),
+            Err(stop) => stopped(alloc, stop),
+        },
+    }
+}
