@@ -1,4 +1,3 @@
-pub mod Bases
 pub mod Least
 pub mod Mutants
 pub mod Programs

@@ -5,7 +5,7 @@ use Rattle.bk_isa.specs.declared.form.Form.TheVariants.{Wfq}
 use Rattle.bk_know.specs.declared.sets.Sets.{Sets}
 use Rattle.bk_know.specs.Sets.{within}
 use Rattle.bk_image.specs.Images.{Parts, known}
-use Rattle.bk_check.specs.Flow.{start, fall, jump, target}
+use Rattle.bk_flow.specs.Flow.{start, fall, jump, target}
 use Rattle.bk_check.specs.Obligations.{implies, or_later, unmet_here}
 
 -- the know line, or where there is none what falls in

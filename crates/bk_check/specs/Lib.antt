@@ -1,4 +1,2 @@
 pub mod Accepted
-pub mod Flow
 pub mod Obligations
-pub mod Values

@@ -2,13 +2,9 @@
 //! whether each instruction meets its obligations.
 #![tactic(auto)]
 
-mod edges;
-mod flow;
 mod granting;
-mod masks;
 mod obligations;
 mod pass;
-mod values;
 mod waiting;
 
 pub use pass::{Refusal, check};

@@ -4,8 +4,8 @@
 ghost use Rattle.std.specs.Prelude.{◌≡◌};
 ghost use Rattle.bk_check.specs.Obligations.{implies, single_stage, single_head, obligation_5, awaits, obligation_6, obligation_7, obligation_8, marks, obligation_9, is_summed, may_branch, obligation_10, sends, is_send, may_read, obligation_11, may_flush_own, may_flush_victim, may_flush, obligation_12, obligation_13, obligation_14, obligation_15};
 
-use crate::masks::{lacks, may};
-use crate::values::{
+use bk_flow::{lacks, may};
+use bk_flow::values::{
     ACKS_SOME, ACKS_ZERO, CLASS_MEM, CLASS_REQ, CLASS_RESP, CLASS_RESP_REQ, FIELD_GP, FIELD_KIND,
     FIELD_OTHERS, FIELD_OWN, FIELD_OWNER, FIELD_VICTIM, GP_FREE, GP_PENDING, HEAD_BLOCK,
     HEAD_COH_ACK, HEAD_INV_ACK, HEAD_NONE, HEAD_NULL_WB, HEAD_REQUEST, HEAD_WB, KIND_RD_WR_UC_RD,

@@ -1,7 +1,7 @@
 //! Sets of values of one field, and masks of a set for each field.
 
 ghost use Rattle.std.specs.Prelude.{◌≡◌};
-ghost use Rattle.bk_check.specs.Flow.{may, lacks, when, only_state, only_debt, only_down, is_shared, flag, with_flag, set_not, set_and, set_or, with_field, idle_with, held_with, nothing, start};
+ghost use Rattle.bk_flow.specs.Flow.{may, lacks, when, only_state, only_debt, only_down, is_shared, flag, with_flag, set_not, set_and, set_or, with_field, idle_with, held_with, nothing, start};
 
 use crate::values::{
     ACKS_ZERO, DOWN_F, DOWN_I, DOWN_O, DOWN_PAID, DOWN_S, DREQ_E, DREQ_F, DREQ_M, DREQ_O,

@@ -1,7 +1,7 @@
 //! The edges from an instruction to the next place and to its target, and the masks on them.
 
 ghost use Rattle.std.specs.Prelude.{◌≡◌};
-ghost use Rattle.bk_check.specs.Flow.{own_of_kind, cut_own, existing, keep_values, lose_values, fall, target, jump};
+ghost use Rattle.bk_flow.specs.Flow.{own_of_kind, cut_own, existing, keep_values, lose_values, fall, target, jump};
 
 use crate::flow::left;
 use crate::masks::with_field;

@@ -1,7 +1,7 @@
 //! What an instruction leaves of the mask at its place, where it doesn't branch.
 
 ghost use Rattle.std.specs.Prelude.{◌≡◌};
-ghost use Rattle.bk_check.specs.Flow.{heads, wait, empty_head, awake, add, pop, block_head, sent_some, sent_none, acks_after, invalidate, flush, pay_requester, pay, close, owe, left, left_directory, left_queue, left_message, left_memory};
+ghost use Rattle.bk_flow.specs.Flow.{heads, wait, empty_head, awake, add, pop, block_head, sent_some, sent_none, acks_after, invalidate, flush, pay_requester, pay, close, owe, left, left_directory, left_queue, left_message, left_memory};
 
 use crate::masks::{
     flag, held_with, idle_with, is_shared, lacks, may, nothing, only_debt, only_down, only_state,
