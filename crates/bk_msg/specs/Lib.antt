@@ -1,1 +1,6 @@
+pub mod Fields
+pub mod Kinds
 pub mod Networks
+pub mod Reading
+pub mod Spelling
+pub mod Table
