@@ -1,5 +1,9 @@
 pub mod Admitted
+pub mod Bad
+pub mod Completion
+pub mod Exactly
 pub mod Fits
+pub mod Laws
 pub mod Messages
 pub mod Numbers
 pub mod Parts

@@ -121,7 +121,7 @@ pub record IsFound (bytes : List ℕ) (x : Row × ℕ) : Type 0 where
   pub length-is : x.1 ≡ length (spelling x.0)
   pub parts : bytes ≡ spelling x.0 ++ drop x.1 bytes
 
-found_whole : (k : Kind) (bytes : List ℕ) → IsRead k bytes → IsFound bytes (row_of (fields_at k bytes), size_of (layout_of k))
+pub found_whole : (k : Kind) (bytes : List ℕ) → IsRead k bytes → IsFound bytes (row_of (fields_at k bytes), size_of (layout_of k))
 found_whole k bytes h =
     let f = fields_at k bytes in
     let back = fields_of-row_of f h.fits in

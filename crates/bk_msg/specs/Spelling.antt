@@ -57,7 +57,7 @@ pub record Fits (l : Layout) (f : Fields) : Type 0 where
 abbrev pub IsMessage : Row → Type 0
 IsMessage r = Fits (layout_of (fields_of r).kind) (fields_of r)
 
--- THE RELATION: a message that begins these bytes
+-- THE RELATION: a front of the bytes spells the message
 pub record Begins (r : Row) (bytes : List ℕ) : Type 0 where
   pub message : IsMessage r
   pub rest : List ℕ

@@ -1,9 +1,11 @@
-ghost use Rattle.std.specs.Prelude.{◌≡◌, ◌+◌, ◌*◌, ◌≤◌, ◌++◌, length};
+ghost use Rattle.std.specs.Prelude.{◌≡◌, ◌+◌, ◌*◌, ◌≤◌, ◌++◌, ℕ, List, length, Ok, IfOk, IfErr, IsErrAnd};
 ghost use Rattle.std.specs.List.{flat_map};
 ghost use Rattle.arrayvec.specs.ArrayVec.{array_vec_len};
 ghost use Rattle.bk_base.specs.Places.{IsAddr};
 ghost use Rattle.bk_msg.specs.Table.{load_bytes, layout_of, size_of};
-ghost use Rattle.bk_msg.specs.Spelling.{word, header, spelling};
+ghost use Rattle.bk_msg.specs.declared.row.Row.{Row};
+ghost use Rattle.bk_msg.specs.Spelling.{word, header, spelling, IsMessage, Begins};
+ghost use Rattle.bk_msg.specs.Faults.{IsFaultOf, IsProperFront, IsLeastBad, IsShort, IsBadAt};
 ghost use Rattle.bk_msg.specs.Reading.{first_fault, word_at, payload_at, fields_at, decode};
 
 use crate::fault::MsgFault;
@@ -157,4 +159,27 @@ fn read(bytes: &[u8]) -> Result<(Message, usize), MsgFault>
     }
     let row = row_of(fields_at(kind, bytes));
     Ok((Message::of(row), size))
+}
+
+/// The message that begins the bytes, and how many bytes it has, or the least bad place.
+///
+/// Fails with `Kind`, `Field` or `Reserved` at the first byte with which the bytes are no longer the
+/// front of any message's spelling, and with `Short` where they are the front of one and not the
+/// whole. A byte of no field that isn't 0 is `Reserved`; each other one is `Field`, the three bytes
+/// of the address that must be 0 among them. Bytes behind the message aren't looked at.
+pub fn decode(bytes: &[u8]) -> Result<(Message, usize), MsgFault>
+    // What is read is a message that is spelled so.
+    ensures found { IfOk result (λ x. Begins x.0 bytes.now × (x.1 ≡ length (spelling x.0))) }
+    // What is spelled so is read, whatever follows it.
+    ensures only { (m : Row) (rest : List ℕ) → IsMessage m → bytes.now ≡ spelling m ++ rest → result ≡ Ok (m, length (spelling m)) }
+    // What each fault says.
+    ensures faults { IfErr result (λ fault. IsFaultOf bytes.now fault) }
+    // A front of a message that isn't the whole is short.
+    ensures short { IsProperFront bytes.now → IsErrAnd result IsShort }
+    // Bytes that leave all spellings at a place, with no message before it, are bad there.
+    ensures bad { (place : ℕ) → IsLeastBad bytes.now place → ((m : Row) → Begins m bytes.now → ⊥) → IsErrAnd result (IsBadAt place) }
+    // Which fault it is.
+    ensures exact { result ≡ decode bytes.now }
+{
+    read(bytes)
 }

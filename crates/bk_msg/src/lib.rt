@@ -10,7 +10,7 @@ mod message;
 mod row;
 mod table;
 
-pub use codec::{Packet, encode};
+pub use codec::{Packet, decode, encode};
 pub use fault::MsgFault;
 pub use message::Message;
 pub use row::{ENGINE, MEMORY, Network, Row};
