@@ -28,7 +28,7 @@ Read = Result (Row × ℕ) MsgFault
 pub message_length : (r : Row) → IsMessage r → length (spelling r) ≡ size_of (layout_of (fields_of r).kind)
 message_length r h = text_length (fields_of r) (layout_of (fields_of r).kind) h
 
-load_few : (load : Load) → load_bytes load ≤ 64
+pub load_few : (load : Load) → load_bytes load ≤ 64
 load_few loads.Nothing = omega arith
 load_few loads.Word = omega arith
 load_few loads.Block = omega arith

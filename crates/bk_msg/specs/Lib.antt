@@ -1,4 +1,5 @@
 pub mod Faults
+pub mod Feeds
 pub mod Fields
 pub mod Kinds
 pub mod Networks

@@ -39,7 +39,8 @@ fn header(fields: Fields) -> [u8; 8]
     ]
 }
 
-fn push(out: &mut ArrayVec<u8, 96>, bytes: &[u8])
+/// Appends the bytes, for which there is room.
+pub fn push(out: &mut ArrayVec<u8, 96>, bytes: &[u8])
     requires { array_vec_len out.old + length bytes.now ≤ 96 }
     ensures { out.new.items ≡ out.old.items ++ bytes.now }
 {

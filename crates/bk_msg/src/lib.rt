@@ -4,6 +4,7 @@
 
 mod codec;
 mod fault;
+mod feed;
 mod fields;
 mod kind;
 mod message;
@@ -12,5 +13,6 @@ mod table;
 
 pub use codec::{Packet, decode, encode};
 pub use fault::MsgFault;
+pub use feed::{Feed, FeedEnd, FeedFault, any_pieces};
 pub use message::Message;
 pub use row::{ENGINE, MEMORY, Network, Row};
