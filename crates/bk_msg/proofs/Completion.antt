@@ -1,8 +1,8 @@
 -- Bytes that are admitted as far as they go are the front of a message's spelling.
-use Rattle.std.proofs.Common.{◌≡◌, ℕ, zero, suc, ◌+◌, ◌-◌, ◌*◌, ◌<◌, ◌≤◌, Bool, true, false, eqb, ltb, List, [], ◌∷◌, ◌++◌, length, get_or, take, drop, replicate, Some, refl, sym, ap, subst, ◌∙◌, append_assoc, arith, inl, inr}
+use Rattle.std.proofs.Common.{◌≡◌, ℕ, zero, suc, ◌+◌, ◌-◌, ◌≤◌, Bool, true, ltb, List, [], ◌∷◌, ◌++◌, length, take, replicate, refl, sym, ap, ◌∙◌, arith}
 use Rattle.std.specs.Prelude.{◌&&◌}
-use Rattle.std.proofs.lemmas.Bool.{eq-eqb, and_parts, ltb-true, cases_lt}
-use Rattle.std.proofs.lemmas.List.{take_at, take-append-drop, length-append, length-replicate, length-drop}
+use Rattle.std.proofs.lemmas.Bool.{eq-eqb, and_parts, ltb-true}
+use Rattle.std.proofs.lemmas.List.{take_at, length-append, length-replicate}
 use Rattle.std.proofs.Math.Seq.{take-append-add}
 use Rattle.bk_msg.specs.declared.kind.Kind.{Kind}
 use Rattle.bk_msg.specs.declared.kind.Kind.TheVariants.{Rd, Wr, UcRd, UcWr, Evict, Inv, StWb, StTr, Blk, StWake, UcBlk, UcDone, Done, Fill, InvAck, CohAck, Wb, NullWb, Read, Write, WriteWord, Block}
@@ -11,12 +11,12 @@ use Rattle.bk_msg.specs.declared.table.Rule.{Rule}
 use Rattle.bk_msg.specs.declared.table.Rule.TheVariants.{Reserved, Number, Only, State, Aligned, Any}
 use Rattle.bk_msg.specs.declared.table.States.TheVariants.{Lowered, Left, Received, Granted, Modified}
 use Rattle.bk_msg.specs.declared.table.Unit.TheVariants as units
-use Rattle.bk_msg.specs.Kinds.{kind_code, kind_of_code}
+use Rattle.bk_msg.specs.Kinds.{kind_code}
 use Rattle.bk_msg.specs.Table.{admits, rules_of, size_of, load_bytes, layout_of}
-use Rattle.bk_msg.specs.Spelling.{spelling, IsMessage}
+use Rattle.bk_msg.specs.Spelling.{spelling}
 use Rattle.bk_msg.specs.Faults.{IsFrontOf}
 use Rattle.bk_msg.proofs.Admitted.{AllAdmitted}
-use Rattle.bk_msg.proofs.Messages.{IsFound, found_whole, is_read}
+use Rattle.bk_msg.proofs.Messages.{found_whole, is_read}
 use Rattle.bk_msg.proofs.Parts.{IsBytes}
 
 -- a byte that the rule admits

@@ -1,15 +1,13 @@
 -- When each answer of reading comes.
-use Rattle.std.proofs.Common.{◌≡◌, ℕ, zero, suc, ◌+◌, ◌-◌, ◌*◌, ◌<◌, ◌≤◌, List, [], ◌∷◌, ◌++◌, length, take, drop, Option, Some, None, Result, Ok, Err, refl, sym, ap, subst, ◌∙◌, append_assoc, arith, inl, inr}
-use Rattle.std.specs.Prelude.{IfOk, IfErr, IsErrAnd, slice_index}
+use Rattle.std.proofs.Common.{◌≡◌, ℕ, ◌+◌, ◌≤◌, List, [], ◌∷◌, ◌++◌, length, take, drop, Result, Ok, Err, sym, ap, subst, ◌∙◌, append_assoc, arith, inl, inr}
+use Rattle.std.specs.Prelude.{IfOk, IfErr, IsErrAnd}
 use Rattle.std.proofs.lemmas.Bool.{cases_lt}
 use Rattle.std.proofs.lemmas.List.{append-nil, length-append, take-append-drop, take-take}
 use Rattle.bk_msg.specs.declared.fault.MsgFault.{MsgFault}
 use Rattle.bk_msg.specs.declared.fault.MsgFault.TheVariants as faults
-use Rattle.bk_msg.specs.declared.kind.Kind.{Kind}
 use Rattle.bk_msg.specs.declared.row.Row.{Row}
 use Rattle.bk_msg.specs.declared.table.Load.{Load}
 use Rattle.bk_msg.specs.declared.table.Load.TheVariants as loads
-use Rattle.bk_msg.specs.Kinds.{kind_of_code}
 use Rattle.bk_msg.specs.Table.{size_of, load_bytes, layout_of}
 use Rattle.bk_msg.specs.Fields.{fields_of}
 use Rattle.bk_msg.specs.Spelling.{spelling, IsMessage, Begins}
@@ -17,7 +15,6 @@ use Rattle.bk_msg.specs.Reading.{decode}
 use Rattle.bk_msg.specs.Faults.{IsFrontOf, IsFront, IsProperFront, IsLeastBad, IsFaultOf, IsShort, IsBadAt, IsCut}
 use Rattle.bk_msg.proofs.Laws.{is_fault}
 use Rattle.bk_msg.proofs.Messages.{IsFound, text_length, decode_again, decode_found}
-use Rattle.bk_msg.proofs.Numbers.{kind_again}
 use Rattle.bk_msg.proofs.Parts.{IsBytes}
 
 abbrev Read : Type 0

@@ -1,7 +1,7 @@
 -- The test of a message's fields is the definition.
-use Rattle.std.proofs.Common.{◌≡◌, ℕ, Bool, true, false, refl, arith, eqb, length}
+use Rattle.std.proofs.Common.{◌≡◌, Bool, true, false, refl, eqb}
 use Rattle.std.specs.Prelude.{◌&&◌, ◌%◌}
-use Rattle.std.proofs.lemmas.Bool.{and_parts, eqb-true, eq-eqb}
+use Rattle.std.proofs.lemmas.Bool.{eqb-true, eq-eqb}
 use Rattle.bk_base.specs.Places.{IsAddr}
 use Rattle.bk_msg.specs.declared.fields.Fields.{Fields}
 use Rattle.bk_msg.specs.declared.table.Layout.{Layout}

@@ -1,7 +1,6 @@
 -- What feeds keep, and what they make of a stream in pieces.
-use Rattle.std.proofs.Common.{◌≡◌, ℕ, zero, suc, ◌+◌, ◌-◌, ◌<◌, ◌≤◌, List, [], ◌∷◌, ◌++◌, length, take, drop, Option, Some, None, Result, Ok, Err, refl, sym, ap, subst, ◌∙◌, append_assoc, arith}
-use Rattle.std.specs.Prelude.{MatchOption}
-use Rattle.std.specs.List.{flat_map, AllByRecursion}
+use Rattle.std.proofs.Common.{◌≡◌, ℕ, ◌+◌, ◌≤◌, List, [], ◌∷◌, ◌++◌, length, drop, Option, Some, None, Result, Ok, Err, refl, sym, ap, subst, ◌∙◌, append_assoc, arith}
+use Rattle.std.specs.List.{AllByRecursion}
 use Rattle.std.proofs.lemmas.List.{append-nil, length-append}
 use Rattle.std.proofs.lemmas.List.Concat.{flat_map-cons}
 use Rattle.std.proofs.lemmas.Grind.{flat_map-append}
@@ -11,7 +10,7 @@ use Rattle.bk_msg.specs.declared.row.Row.{Row}
 use Rattle.bk_msg.specs.Spelling.{spelling, IsMessage}
 use Rattle.bk_msg.specs.Reading.{decode}
 use Rattle.bk_msg.specs.Faults.{IsShort}
-use Rattle.bk_msg.specs.Feeds.{spellings, Splits, Kept, IsPartial, IsKept, new_feed, stopped, Takes, Feeds, FeedsAll, IsFedBy, Reads, joined}
+use Rattle.bk_msg.specs.Feeds.{spellings, Splits, Kept, IsPartial, IsKept, new_feed, stopped, Feeds, FeedsAll, IsFedBy, Reads, joined}
 use Rattle.bk_msg.proofs.Messages.{decode_again}
 use Rattle.bk_msg.proofs.Streams.{stays_bad}
 

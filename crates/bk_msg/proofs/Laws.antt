@@ -1,25 +1,24 @@
 -- What each fault says of the bytes, and when each comes.
-use Rattle.std.proofs.Common.{◌≡◌, ℕ, zero, suc, ◌+◌, ◌-◌, ◌<◌, ◌≤◌, Bool, true, false, cond, ltb, List, [], ◌∷◌, ◌++◌, length, get_or, take, drop, Option, Some, None, Result, Ok, Err, refl, sym, ap, subst, ◌∙◌, append_assoc, arith, inl, inr}
-use Rattle.std.specs.Prelude.{IfErr, slice_index}
-use Rattle.std.proofs.lemmas.Bool.{ltb-true, cases_lt}
-use Rattle.std.proofs.lemmas.List.{append-nil, length-append, length-take, take-append-drop, take_at}
+use Rattle.std.proofs.Common.{◌≡◌, ℕ, suc, ◌+◌, ◌<◌, Bool, true, false, cond, ltb, List, [], ◌∷◌, ◌++◌, length, get_or, take, drop, Option, Some, None, Ok, Err, refl, sym, ap, subst, ◌∙◌, arith}
+use Rattle.std.specs.Prelude.{slice_index}
+use Rattle.std.proofs.lemmas.Bool.{ltb-true}
+use Rattle.std.proofs.lemmas.List.{append-nil, length-take}
 use Rattle.bk_msg.specs.declared.fault.MsgFault.{MsgFault}
 use Rattle.bk_msg.specs.declared.fault.MsgFault.TheVariants as faults
 use Rattle.bk_msg.specs.declared.kind.Kind.{Kind}
 use Rattle.bk_msg.specs.declared.row.Row.{Row}
 use Rattle.bk_msg.specs.declared.row.Row.TheVariants.{Done}
-use Rattle.bk_msg.specs.declared.table.Rule.{Rule}
 use Rattle.bk_msg.specs.Kinds.{kind_code, kind_of_code}
 use Rattle.bk_msg.specs.Table.{rules_of, size_of, layout_of}
 use Rattle.bk_msg.specs.Fields.{fields_of}
-use Rattle.bk_msg.specs.Spelling.{spelling, text, IsMessage, Begins}
+use Rattle.bk_msg.specs.Spelling.{spelling, text, IsMessage}
 use Rattle.bk_msg.specs.Reading.{first_fault, fields_at, message_at, after_kind, decode}
 use Rattle.bk_msg.specs.Fields.{row_of}
-use Rattle.bk_msg.specs.Faults.{IsFrontOf, IsFront, IsProperFront, IsLeastBad, MustBeZero, IsFaultOf, IsShort, IsBadAt}
+use Rattle.bk_msg.specs.Faults.{IsFrontOf, IsFront, IsLeastBad, MustBeZero, IsFaultOf}
 use Rattle.bk_msg.proofs.Admitted.{AllAdmitted, admitted-from_none}
-use Rattle.bk_msg.proofs.Bad.{IsFaultAt, IsFirst, is_first}
-use Rattle.bk_msg.proofs.Completion.{IsFrontFor, is_front}
-use Rattle.bk_msg.proofs.Messages.{IsFound, text_admitted, text_length, decode_again, decode_found}
+use Rattle.bk_msg.proofs.Bad.{IsFirst, is_first}
+use Rattle.bk_msg.proofs.Completion.{is_front}
+use Rattle.bk_msg.proofs.Messages.{text_admitted}
 use Rattle.bk_msg.proofs.Numbers.{kind_again, kind_found}
 use Rattle.bk_msg.proofs.Parts.{IsBytes, IsBytes-take}
 

@@ -2,6 +2,7 @@ pub mod Admitted
 pub mod Bad
 pub mod Completion
 pub mod Exactly
+pub mod Examples
 pub mod Fits
 pub mod Kept
 pub mod Laws

@@ -1,7 +1,5 @@
 -- A message that is read is spelled so, and what is spelled so is read.
-use Rattle.std.proofs.Common.{◌≡◌, ℕ, zero, suc, ◌+◌, ◌*◌, ◌%◌, ◌/◌, ◌^◌, ◌<◌, ◌≤◌, Bool, true, false, cond, eqb, ltb, List, [], ◌∷◌, ◌++◌, length, get_or, take, drop, Option, Some, None, Result, Ok, Err, refl, sym, ap, subst, ◌∙◌, append_assoc, arith}
-use Rattle.std.specs.Prelude.{IfOk, IsTrue}
-use Rattle.std.specs.Int.{w64, to_le_bytes, from_le_bytes}
+use Rattle.std.proofs.Common.{◌≡◌, ℕ, ◌+◌, ◌*◌, ◌%◌, ◌/◌, ◌^◌, ◌<◌, ◌≤◌, Bool, true, false, cond, eqb, ltb, List, [], ◌∷◌, ◌++◌, length, get_or, take, drop, Option, Some, None, Ok, Err, refl, sym, ap, subst, ◌∙◌, arith}
 use Rattle.std.specs.List.{flat_map}
 use Rattle.std.proofs.lemmas.Bool.{eqb-true, eq-eqb, ltb-false, le-ltb, lt-ltb}
 use Rattle.std.proofs.lemmas.List.{take-append-drop, drop-drop, length-append}
@@ -12,12 +10,10 @@ use Rattle.bk_msg.specs.declared.fields.Payload.{Payload}
 use Rattle.bk_msg.specs.declared.kind.Kind.{Kind}
 use Rattle.bk_msg.specs.declared.row.Row.{Row}
 use Rattle.bk_msg.specs.declared.table.Layout.{Layout}
-use Rattle.bk_msg.specs.declared.table.Unit.{Unit as Aligns}
-use Rattle.bk_msg.specs.declared.table.Rule.TheVariants.{Any, Only, Aligned}
 use Rattle.bk_msg.specs.Kinds.{kind_code, kind_of_code}
-use Rattle.bk_msg.specs.Table.{admits, unit_bytes, load_bytes, size_of, rules_of, layout_of}
+use Rattle.bk_msg.specs.Table.{unit_bytes, load_bytes, size_of, rules_of, layout_of}
 use Rattle.bk_msg.specs.Fields.{fields_of, row_of, words_of}
-use Rattle.bk_msg.specs.Spelling.{word, header, text, spelling, Fits, IsMessage, IsWord}
+use Rattle.bk_msg.specs.Spelling.{word, header, text, spelling, Fits, IsMessage}
 use Rattle.bk_msg.specs.Reading.{first_fault, word_at, payload_at, fields_at, message_at, after_kind, decode}
 use Rattle.bk_msg.proofs.Admitted.{AllAdmitted, admitted-from_none, none-from_admitted}
 use Rattle.bk_msg.proofs.Numbers.{kind_again, kind_found}

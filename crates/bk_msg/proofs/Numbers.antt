@@ -1,5 +1,5 @@
 -- Kinds and states, and their numbers.
-use Rattle.std.proofs.Common.{◌≡◌, ℕ, ◌<◌, Bool, true, false, cond, eqb, List, [], ◌∷◌, Option, Some, None, refl, sym, subst}
+use Rattle.std.proofs.Common.{◌≡◌, ℕ, Bool, true, false, cond, eqb, List, [], ◌∷◌, Option, Some, None, refl, subst}
 use Rattle.std.proofs.lemmas.Bool.{eqb-true}
 use Rattle.bk_base.specs.declared.coh.Coh.{Coh}
 use Rattle.bk_base.specs.declared.coh.Coh.TheVariants.{I, S, E, F, M, O}
@@ -52,11 +52,11 @@ state_here false n j s others here later e = later e
 pub state_found : (n : ℕ) (s : Coh) → state_of_code n ≡ Some s → n ≡ code_of s
 state_found n s e =
     state_here (eqb n 0) n I s _ (λ h. eqb-true _ _ h)
-        (state_here (eqb n 1) n S s _ (λ h. eqb-true _ _ h)
-            (state_here (eqb n 2) n E s _ (λ h. eqb-true _ _ h)
-                (state_here (eqb n 3) n F s _ (λ h. eqb-true _ _ h)
-                    (state_here (eqb n 6) n M s _ (λ h. eqb-true _ _ h)
-                        (state_here (eqb n 7) n O s None (λ h. eqb-true _ _ h) (λ h. absurd cc)))))) e
+    (state_here (eqb n 1) n S s _ (λ h. eqb-true _ _ h)
+    (state_here (eqb n 2) n E s _ (λ h. eqb-true _ _ h)
+    (state_here (eqb n 3) n F s _ (λ h. eqb-true _ _ h)
+    (state_here (eqb n 6) n M s _ (λ h. eqb-true _ _ h)
+    (state_here (eqb n 7) n O s None (λ h. eqb-true _ _ h) (λ h. absurd cc)))))) e
 
 pub state_again : (s : Coh) → state_of_code (code_of s) ≡ Some s
 state_again I = refl

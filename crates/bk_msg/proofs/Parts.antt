@@ -1,9 +1,9 @@
 -- A message that is read is the one that was spelled: bytes and fields, part by part.
-use Rattle.std.proofs.Common.{◌≡◌, ℕ, zero, suc, ◌+◌, ◌*◌, ◌%◌, ◌/◌, ◌^◌, ◌<◌, ◌≤◌, Bool, true, false, List, [], ◌∷◌, ◌++◌, length, get_or, take, drop, Option, Some, None, refl, sym, ap, subst, ◌∙◌, append_assoc, arith, inl, inr}
-use Rattle.std.specs.Int.{w64, to_le_bytes, from_le_bytes}
+use Rattle.std.proofs.Common.{◌≡◌, ℕ, zero, suc, ◌+◌, ◌*◌, ◌%◌, ◌<◌, ◌≤◌, List, [], ◌∷◌, ◌++◌, length, get_or, take, drop, refl, sym, ap, ◌∙◌, append_assoc, arith, inl, inr}
+use Rattle.std.specs.Int.{w64, from_le_bytes}
 use Rattle.std.specs.List.{flat_map, AllByRecursion}
-use Rattle.std.proofs.lemmas.Bool.{cases_lt, eqb-true}
-use Rattle.std.proofs.lemmas.List.{take_at, drop_at, take-append-drop, length-append, length-take, length-drop, get_or-drop, get_or-take, get_or_past, drop-drop}
+use Rattle.std.proofs.lemmas.Bool.{cases_lt}
+use Rattle.std.proofs.lemmas.List.{take_at, drop_at, length-append, length-take, length-drop, get_or-drop, get_or-take, get_or_past, drop-drop}
 use Rattle.std.proofs.lemmas.List.Concat.{flat_map-cons}
 use Rattle.std.proofs.lemmas.Nat.{le_bytes_8, from_le_bytes-to_le_bytes_8}
 use Rattle.bk_msg.specs.declared.fields.Payload.{Payload}
@@ -67,10 +67,10 @@ words_back (suc n) place bytes fits long =
     let first = word_back place bytes fits (omega (arith, long)) in
     let k : 8 + 8 * n ≡ 8 * suc n = omega arith in
     flat_map-cons word (word_at place bytes) (words_at (place + 8) n bytes)
-        ∙ (ap (λ (t : List ℕ). t ++ flat_map word (words_at (place + 8) n bytes)) first
-        ∙ (ap (λ (t : List ℕ). take 8 (drop place bytes) ++ t) others
-        ∙ (ap (λ (t : List ℕ). take 8 (drop place bytes) ++ take (8 * n) t) (sym (drop-drop 8 place bytes))
-        ∙ (take-more 8 (8 * n) (drop place bytes) ∙ ap (λ (m : ℕ). take m (drop place bytes)) k))))
+    ∙ (ap (λ (t : List ℕ). t ++ flat_map word (words_at (place + 8) n bytes)) first
+    ∙ (ap (λ (t : List ℕ). take 8 (drop place bytes) ++ t) others
+    ∙ (ap (λ (t : List ℕ). take 8 (drop place bytes) ++ take (8 * n) t) (sym (drop-drop 8 place bytes))
+    ∙ (take-more 8 (8 * n) (drop place bytes) ∙ ap (λ (m : ℕ). take m (drop place bytes)) k))))
 
 pub words_small : (n place : ℕ) (bytes : List ℕ) → IsBytes bytes → AllByRecursion IsWord (words_at place n bytes)
 words_small zero place bytes fits = tt

@@ -1,9 +1,7 @@
 -- Bytes against the rules of their places.
-use Rattle.std.proofs.Common.{◌≡◌, ℕ, suc, ◌+◌, ◌<◌, ◌≤◌, Bool, true, false, cond, List, [], ◌∷◌, ◌++◌, length, drop, Option, Some, None, refl, sym, ap, ◌∙◌, arith}
+use Rattle.std.proofs.Common.{◌≡◌, ℕ, ◌<◌, List, [], ◌∷◌, length, None, refl, arith}
 use Rattle.std.proofs.lemmas.List.{nil_from_length}
-use Rattle.bk_msg.specs.declared.fault.MsgFault.{MsgFault}
 use Rattle.bk_msg.specs.declared.table.Rule.{Rule}
-use Rattle.bk_msg.specs.Table.{admits, fault_at}
 use Rattle.bk_msg.specs.Reading.{first_fault}
 
 pub no_bytes : (place : ℕ) (rules : List Rule) → first_fault place rules [] ≡ None

@@ -1,9 +1,7 @@
 -- The fields of a message give the message, and fields in range are those of a message.
-use Rattle.std.proofs.Common.{◌≡◌, ℕ, Bool, true, false, eqb, List, [], ◌∷◌, Option, Some, None, refl, sym, ap, subst, ◌∙◌}
-use Rattle.std.specs.Prelude.{IsTrue}
+use Rattle.std.proofs.Common.{◌≡◌, ℕ, true, Option, Some, None, refl, sym, subst, ◌∙◌}
 use Rattle.std.proofs.lemmas.Bool.{eqb-true}
 use Rattle.bk_base.specs.declared.coh.Coh.{Coh}
-use Rattle.bk_base.specs.declared.coh.Coh.TheVariants.{I}
 use Rattle.bk_base.specs.States.{code_of, state_of_code}
 use Rattle.bk_msg.specs.declared.fields.Fields.{Fields}
 use Rattle.bk_msg.specs.declared.fields.Payload.{Payload}

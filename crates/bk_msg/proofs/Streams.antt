@@ -1,9 +1,9 @@
 -- Reading a stream message by message, of which the next is gathered in a rest.
-use Rattle.std.proofs.Common.{◌≡◌, ℕ, zero, suc, ◌+◌, ◌-◌, ◌*◌, ◌<◌, ◌≤◌, Bool, true, false, cond, ltb, List, [], ◌∷◌, ◌++◌, length, take, drop, Option, Some, None, Result, Ok, Err, refl, sym, ap, subst, ◌∙◌, append_assoc, arith}
+use Rattle.std.proofs.Common.{◌≡◌, ℕ, ◌+◌, ◌<◌, ◌≤◌, Bool, true, false, cond, ltb, List, [], ◌∷◌, ◌++◌, length, take, Option, Some, None, Result, Ok, Err, refl, sym, ap, subst, ◌∙◌, append_assoc, arith}
 use Rattle.std.specs.Prelude.{slice_index}
-use Rattle.std.specs.List.{flat_map, AllByRecursion}
+use Rattle.std.specs.List.{AllByRecursion}
 use Rattle.std.proofs.lemmas.Bool.{ltb-true}
-use Rattle.std.proofs.lemmas.List.{append-nil, length-append, take-append-drop, nil_from_length, take_at}
+use Rattle.std.proofs.lemmas.List.{append-nil, length-append, nil_from_length, take_at}
 use Rattle.std.proofs.lemmas.List.Concat.{flat_map-cons}
 use Rattle.std.proofs.lemmas.Grind.{flat_map-append}
 use Rattle.bk_msg.specs.declared.fault.MsgFault.{MsgFault}
@@ -17,7 +17,7 @@ use Rattle.bk_msg.specs.Fields.{fields_of, row_of}
 use Rattle.bk_msg.specs.Spelling.{spelling, IsMessage, Begins}
 use Rattle.bk_msg.specs.Reading.{first_fault, fields_at, message_at, after_kind, decode}
 use Rattle.bk_msg.specs.Faults.{IsShort}
-use Rattle.bk_msg.specs.Feeds.{spellings, Splits, IsPartial, Reads}
+use Rattle.bk_msg.specs.Feeds.{spellings, IsPartial, Reads}
 use Rattle.bk_msg.proofs.Bad.{is_first}
 use Rattle.bk_msg.proofs.Exactly.{message_length, length_bounds, load_few, begins_read}
 use Rattle.bk_msg.proofs.Numbers.{kind_again}
@@ -49,8 +49,8 @@ short_of_kind k b rest kind lt =
       below = lt;
       few = size_few k;
       least = λ m h first.
-        let same : (fields_of m).kind ≡ k = same_kind (fields_of m).kind k (sym (kind_again (fields_of m).kind) ∙ (ap kind_of_code (first (omega arith)) ∙ kind)) in
-        omega (arith, message_length m h, ap (λ (j : Kind). size_of (layout_of j)) same);
+          let same : (fields_of m).kind ≡ k = same_kind (fields_of m).kind k (sym (kind_again (fields_of m).kind) ∙ (ap kind_of_code (first (omega arith)) ∙ kind)) in
+          omega (arith, message_length m h, ap (λ (j : Kind). size_of (layout_of j)) same);
     }
 
 tested : (t : Bool) (n needed : ℕ) (y : Row × ℕ) → cond t (Err (faults.Short n)) (Ok y) ≡ Err (faults.Short needed) → (t ≡ true) × (n ≡ needed)
@@ -130,8 +130,8 @@ spellings-more ms m = flat_map-append spelling ms (m ∷ []) ∙ ap (λ (t : Lis
 pub takes_message : (stream : List ℕ) (before : List Row) (rest left : List ℕ) (after : List Row) (m : Row) → Reading stream before rest left after → Begins m rest → Reading stream before [] left (after ++ m ∷ [])
 takes_message stream before rest left after m h begins =
     let whole : stream ≡ spellings (h.messages ++ m ∷ []) ++ left =
-        h.whole ∙ (ap (λ (t : List ℕ). spellings h.messages ++ (t ++ left)) (h.one m begins)
-            ∙ (sym (append_assoc (spellings h.messages) (spelling m) left) ∙ ap (λ (t : List ℕ). t ++ left) (sym (spellings-more h.messages m)))) in
+    h.whole ∙ (ap (λ (t : List ℕ). spellings h.messages ++ (t ++ left)) (h.one m begins)
+    ∙ (sym (append_assoc (spellings h.messages) (spelling m) left) ∙ ap (λ (t : List ℕ). t ++ left) (sym (spellings-more h.messages m)))) in
     record {
       messages = h.messages ++ m ∷ [];
       each = AllByRecursion-more h.messages m h.each begins.message;
@@ -159,9 +159,9 @@ takes_bytes stream before rest left front back after needed h e split le =
       whole = h.whole ∙ (ap (λ (t : List ℕ). spellings h.messages ++ (rest ++ t)) split ∙ ap (λ (t : List ℕ). spellings h.messages ++ t) (sym (append_assoc rest front back)));
       few = omega (arith, long, le, s.few);
       one = λ m begins.
-        let enough : needed ≤ length (spelling m) = s.least m begins.message (λ some. first_of_append rest front (spelling m) begins.rest some begins.parts (omega (arith, length_bounds m begins.message))) in
-        let over : length begins.rest ≡ 0 = omega (arith, enough, le, long, ap length begins.parts, length-append (spelling m) begins.rest) in
-        begins.parts ∙ (ap (λ (t : List ℕ). spelling m ++ t) (nil_from_length begins.rest over) ∙ append-nil (spelling m));
+          let enough : needed ≤ length (spelling m) = s.least m begins.message (λ some. first_of_append rest front (spelling m) begins.rest some begins.parts (omega (arith, length_bounds m begins.message))) in
+          let over : length begins.rest ≡ 0 = omega (arith, enough, le, long, ap length begins.parts, length-append (spelling m) begins.rest) in
+          begins.parts ∙ (ap (λ (t : List ℕ). spelling m ++ t) (nil_from_length begins.rest over) ∙ append-nil (spelling m));
     }
 
 -- what stands behind a rest that is no message changes nothing, where the rest isn't short

@@ -1,5 +1,5 @@
 -- What it means that bytes begin with no message.
-use Rattle.std.specs.Prelude.{◌≡◌, ℕ, ◌+◌, ◌<◌, List, [], ◌∷◌, ◌++◌, length, take, slice_index, Result, Ok, Err}
+use Rattle.std.specs.Prelude.{◌≡◌, ℕ, ◌+◌, ◌<◌, List, [], ◌∷◌, ◌++◌, length, take, slice_index}
 use Rattle.bk_msg.specs.declared.fault.MsgFault.{MsgFault}
 use Rattle.bk_msg.specs.declared.fault.MsgFault.TheVariants.{Kind, Field, Reserved, Short}
 use Rattle.bk_msg.specs.declared.row.Row.{Row}

@@ -11,7 +11,6 @@ use Rattle.bk_msg.specs.declared.row.Row.{Row}
 use Rattle.bk_msg.specs.declared.table.Load.{Load}
 use Rattle.bk_msg.specs.declared.table.Load.TheVariants as loads
 use Rattle.bk_msg.specs.declared.table.Rule.{Rule}
-use Rattle.bk_msg.specs.declared.table.Layout.{Layout}
 use Rattle.bk_msg.specs.Kinds.{kind_of_code}
 use Rattle.bk_msg.specs.Table.{admits, fault_at, rules_of, size_of, layout_of}
 use Rattle.bk_msg.specs.Fields.{row_of}

@@ -62,11 +62,7 @@ struct Stop {
 }
 
 /// Appends the messages of a rest that is no whole message, followed by a piece.
-fn read_messages(
-    old: &[u8],
-    piece: &[u8],
-    out: &mut Vec<Message>,
-) -> Result<Stop, AllocError>
+fn read_messages(old: &[u8], piece: &[u8], out: &mut Vec<Message>) -> Result<Stop, AllocError>
     requires { IsPartial old.now }
     ensures ok { IfOk result (λ stop. Reads (old.now ++ piece.now) out.old.items out.new.items stop.rest.items stop.left stop.fault) }
     ensures err { OnErr result (take (length out.old.items) out.new.items ≡ out.old.items) }
@@ -176,7 +172,8 @@ impl Feed {
     /// changed, and the piece can be given again.
     pub fn feed(&mut self, piece: &[u8], out: &mut Vec<Message>) -> Result<(), FeedFault>
         requires { self.old.fed + length piece.now < 2 ^ 64 }
-        ensures { Outcome result self.old piece.now out.old.items self.new out.new.items }
+        ensures outcome { Outcome result self.old piece.now out.old.items self.new out.new.items }
+        ensures count { self.new.fed ≤ self.old.fed + length piece.now }
     {
         self.answer()?;
         let before = out.len();
@@ -200,5 +197,4 @@ pub fn any_pieces()
     ensures fed { (pieces : List (List ℕ)) (messages : List Row) (kept : Kept) → FeedsAll new_feed pieces messages kept → IsFedBy (joined pieces) messages kept }
     // A stream spells one list of messages, up to one rest that begins with none, for one reason.
     ensures one { (stream : List ℕ) (a b : List Row) (x y : List ℕ) (f g : MsgFault) → Splits stream a x f → Splits stream b y g → (a ≡ b) × (x ≡ y) × (f ≡ g) }
-{
-}
+{}

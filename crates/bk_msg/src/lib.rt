@@ -16,3 +16,6 @@ pub use fault::MsgFault;
 pub use feed::{Feed, FeedEnd, FeedFault, any_pieces};
 pub use message::Message;
 pub use row::{ENGINE, MEMORY, Network, Row};
+
+#[cfg(test)]
+mod tests;

@@ -191,13 +191,28 @@ pub fn layout_of(kind: Kind) -> Layout
     ensures { result ≡ layout_of kind }
 {
     match kind {
-        Kind::Rd => Layout { way: Rule::Number, ..to_engine(Unit::Block) },
-        Kind::Wr => Layout { way: Rule::Number, ..to_engine(Unit::Block) },
+        Kind::Rd => Layout {
+            way: Rule::Number,
+            ..to_engine(Unit::Block)
+        },
+        Kind::Wr => Layout {
+            way: Rule::Number,
+            ..to_engine(Unit::Block)
+        },
         Kind::UcRd => to_engine(Unit::Word),
-        Kind::UcWr => Layout { load: Load::Word, ..to_engine(Unit::Word) },
-        Kind::Evict => Layout { way: Rule::Number, ..to_engine(Unit::Block) },
+        Kind::UcWr => Layout {
+            load: Load::Word,
+            ..to_engine(Unit::Word)
+        },
+        Kind::Evict => Layout {
+            way: Rule::Number,
+            ..to_engine(Unit::Block)
+        },
         Kind::Inv => to_cache(Unit::Block),
-        Kind::StWb => Layout { state: Rule::State(States::Lowered), ..to_cache(Unit::Block) },
+        Kind::StWb => Layout {
+            state: Rule::State(States::Lowered),
+            ..to_cache(Unit::Block)
+        },
         Kind::StTr => Layout {
             state: Rule::State(States::Left),
             peer: Rule::Number,
@@ -205,20 +220,49 @@ pub fn layout_of(kind: Kind) -> Layout
             peer_state: Rule::State(States::Received),
             ..to_cache(Unit::Block)
         },
-        Kind::Blk => Layout { way: Rule::Number, state: Rule::State(States::Granted), load: Load::Block, ..to_cache(Unit::Block) },
-        Kind::StWake => Layout { way: Rule::Number, state: Rule::State(States::Modified), ..to_cache(Unit::Block) },
-        Kind::UcBlk => Layout { load: Load::Word, ..to_cache(Unit::Word) },
+        Kind::Blk => Layout {
+            way: Rule::Number,
+            state: Rule::State(States::Granted),
+            load: Load::Block,
+            ..to_cache(Unit::Block)
+        },
+        Kind::StWake => Layout {
+            way: Rule::Number,
+            state: Rule::State(States::Modified),
+            ..to_cache(Unit::Block)
+        },
+        Kind::UcBlk => Layout {
+            load: Load::Word,
+            ..to_cache(Unit::Word)
+        },
         Kind::UcDone => to_cache(Unit::Word),
         Kind::Done => to_cache(Unit::Block),
-        Kind::Fill => Layout { way: Rule::Number, state: Rule::State(States::Received), load: Load::Block, ..between(Rule::Number, Rule::Number, Unit::Block) },
+        Kind::Fill => Layout {
+            way: Rule::Number,
+            state: Rule::State(States::Received),
+            load: Load::Block,
+            ..between(Rule::Number, Rule::Number, Unit::Block)
+        },
         Kind::InvAck => to_engine(Unit::Block),
         Kind::CohAck => to_engine(Unit::Block),
-        Kind::Wb => Layout { load: Load::Block, ..to_engine(Unit::Block) },
+        Kind::Wb => Layout {
+            load: Load::Block,
+            ..to_engine(Unit::Block)
+        },
         Kind::NullWb => to_engine(Unit::Block),
         Kind::Read => to_memory(Unit::Block),
-        Kind::Write => Layout { load: Load::Block, ..to_memory(Unit::Block) },
-        Kind::WriteWord => Layout { load: Load::Word, ..to_memory(Unit::Word) },
-        Kind::Block => Layout { load: Load::Block, ..between(Rule::Only(MEMORY), Rule::Only(ENGINE), Unit::Block) },
+        Kind::Write => Layout {
+            load: Load::Block,
+            ..to_memory(Unit::Block)
+        },
+        Kind::WriteWord => Layout {
+            load: Load::Word,
+            ..to_memory(Unit::Word)
+        },
+        Kind::Block => Layout {
+            load: Load::Block,
+            ..between(Rule::Only(MEMORY), Rule::Only(ENGINE), Unit::Block)
+        },
     }
 }
 

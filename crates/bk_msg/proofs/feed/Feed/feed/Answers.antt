@@ -1,6 +1,6 @@
 use Rattle.std.proofs.Common.{arith, ap, length}
 use Rattle.std.proofs.lemmas.List.{length-append}
-use Rattle.bk_msg.proofs.Kept.{reads_within, reads_partial}
+use Rattle.bk_msg.proofs.Kept.{reads_within}
 use Rattle.bk_msg.proofs.feed.Feed.feed.Goals as goal
 
 pub kept-requires-clause-within : goal.kept-requires-clause-within
