@@ -1,0 +1,15 @@
+pub mod Admitted
+pub mod Bad
+pub mod Completion
+pub mod Exactly
+pub mod Examples
+pub mod Fits
+pub mod Kept
+pub mod Laws
+pub mod Messages
+pub mod Numbers
+pub mod Parts
+pub mod Places
+pub mod RoundTrips
+pub mod Streams
+pub mod Words
