@@ -1,2 +1,3 @@
-pub mod Lines
-pub mod Numbers
+pub mod Digits
+pub mod Cuts
+pub mod Rows

@@ -1,8 +1,8 @@
 use Rattle.std.proofs.Common.{◌==◌, rules, tests}
 use Rattle.std.proofs.lemmas.Iterator.{YieldsList-from_slice}
 use Rattle.std.proofs.lemmas.Iterator.Search.{position_from_yields_List}
-use Rattle.bk_text.proofs.Lines.{index-from_position}
-use Rattle.bk_text.proofs.words.first_index.Goals as goal
+use Rattle.bk_text.proofs.Cuts.{index-from_position}
+use Rattle.bk_text.proofs.scan.first_index.Goals as goal
 
 pub returns-clause-value : goal.returns-clause-value
 returns-clause-value c =

@@ -1,8 +1,8 @@
 use Rattle.std.proofs.Common.{◌<◌, ◌==◌, length, arith}
 use Rattle.std.proofs.lemmas.Grind.{common_steps}
 use Rattle.std.specs.List.{position_or_len}
-use Rattle.bk_text.proofs.Lines.{lines-first, lines-last}
-use Rattle.bk_text.proofs.words.cut_line.Goals as goal
+use Rattle.bk_text.proofs.Cuts.{lines-first, lines-last}
+use Rattle.bk_text.proofs.scan.cut_line.Goals as goal
 
 pub returns-then-end-text-clause-lines : goal.returns-then-end-text-clause-lines
 returns-then-end-text-clause-lines c = lines-last c.args.text.now (omega arith) (omega arith)

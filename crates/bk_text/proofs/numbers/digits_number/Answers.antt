@@ -7,8 +7,8 @@ use Rattle.std.proofs.lemmas.List.Folds.{list_all_at, list_all_more}
 use Rattle.std.proofs.lemmas.Bool.Decides.{nat_tests}
 use Rattle.std.proofs.lemmas.Int.Digits.{digits_value_more}
 use Rattle.bk_text.specs.Texts.{is_digit}
-use Rattle.bk_text.proofs.Numbers.{none_if_empty, none_if_long, none_if_no_digit, none_if_large_at, some_number}
-use Rattle.bk_text.proofs.number.digits_number.Goals as goal
+use Rattle.bk_text.proofs.Digits.{none_if_empty, none_if_long, none_if_no_digit, none_if_large_at, some_number}
+use Rattle.bk_text.proofs.numbers.digits_number.Goals as goal
 
 pub returns-then-is_empty : goal.returns-then-is_empty
 returns-then-is_empty c = grind (arith, common_steps, none_if_empty, none_if_long)

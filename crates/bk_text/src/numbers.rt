@@ -42,7 +42,7 @@ fn digits_number(radix: u64, most: usize, digits: &[u8]) -> Option<u64>
 
 /// The number that a word writes: 1 to 20 decimal digits, or `0x` and 1 to 16 hexadecimal digits
 /// of either case. None for any other word, and for a number of 2^64 or above.
-pub fn parse_number(word: &[u8]) -> Option<u64>
+pub fn number(word: &[u8]) -> Option<u64>
     ensures { result ≡ number_of word.now }
 {
     match word {
