@@ -1,4 +1,4 @@
-ghost use Rattle.std.specs.Prelude.{◌≡◌, ◌+◌, ◌<◌, ◌≤◌, ◌^◌, ◌∷◌, [], length, IfSome, IfNone};
+ghost use Rattle.std.specs.Prelude.{◌≡◌, ◌+◌, ◌<◌, ◌≤◌, ◌^◌, ◌∷◌, [], length, nat_lt, IfSome, IfNone};
 ghost use Rattle.bk_text.specs.Rows.{Marked, words_from, row_of};
 
 use crate::scan::{blanks_len, first_bad, first_index, word_len};
@@ -84,6 +84,13 @@ impl<'a> Row<'a> {
         self.column = word.column + word.word.len() as u64;
         self.rest = rest;
         Some(word)
+    }
+
+    /// Whether a word is left.
+    pub fn has_word(&self) -> bool
+        ensures { result ≡ nat_lt 0 (length self.now.words) }
+    {
+        cut_word(self.column, self.rest).is_some()
     }
 
     /// The column of the first byte of the comment that no text has.

@@ -1,3 +1,2 @@
-pub mod Examples
 pub mod Index
-pub mod Reading
+pub mod Loop

@@ -1,2 +1,4 @@
-pub mod Traces
+pub mod Faults
+pub mod Grammar
 pub mod Reading
+pub mod Traces

@@ -15,9 +15,12 @@
 #![tactic(auto)]
 
 mod fault;
+mod line;
 mod read;
-mod trace;
 
-pub use fault::TraceFault;
-pub use read::read_trace;
+mod trace;
+mod words;
+
+pub use fault::{Kind, TraceFault};
+
 pub use trace::{OPERATION_LIMIT, Trace};
