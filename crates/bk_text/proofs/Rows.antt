@@ -36,7 +36,7 @@ unfolding words_from
 words_from-nothing column = refl
 
 -- a test, and how it went
-tested : (b : Bool) → ((b ≡ true) ⊎ (b ≡ false))
+pub tested : (b : Bool) → ((b ≡ true) ⊎ (b ≡ false))
 tested true = inl refl
 tested false = inr refl
 

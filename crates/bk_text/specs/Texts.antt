@@ -1,5 +1,5 @@
 -- Texts of lines, words and numbers, as lists of bytes.
-use Rattle.std.specs.Prelude.{ℕ, ◌^◌, Bool, ◌&&◌, ◌||◌, List, ◌∷◌, length, map, drop, Option, Some, None, nat_lt, nat_le, ◌==◌, if◌then◌else◌}
+use Rattle.std.specs.Prelude.{ℕ, ◌^◌, Bool, true, false, ◌&&◌, ◌||◌, List, [], ◌∷◌, length, map, drop, Option, Some, None, nat_lt, nat_le, ◌==◌, if◌then◌else◌}
 use Rattle.std.specs.Char.{digit_value}
 use Rattle.std.specs.List.{slice_split, before_first, position_or_len, filter, list_all}
 use Rattle.std.specs.Str.Lines.{lines}
@@ -25,13 +25,17 @@ before_comment mark line = before_first (λ b. b == mark) line
 abbrev pub comment_of : ℕ → List ℕ → List ℕ
 comment_of mark line = drop (position_or_len (λ b. b == mark) line) line
 
+abbrev pub is_nonempty : {X : Type 0} → List X → Bool
+is_nonempty [] = false
+is_nonempty (x ∷ xs) = true
+
 -- the words of a line, up to its comment
 abbrev pub words_of : ℕ → List ℕ → List (List ℕ)
-words_of mark line = filter (λ word. nat_lt 0 (length word)) (slice_split is_blank (before_comment mark line))
+words_of mark line = filter is_nonempty (slice_split is_blank (before_comment mark line))
 
 -- the words of each line that has some
 abbrev pub rows_of : ℕ → List ℕ → List (List (List ℕ))
-rows_of mark bytes = filter (λ row. nat_lt 0 (length row)) (map (words_of mark) (lines bytes))
+rows_of mark bytes = filter is_nonempty (map (words_of mark) (lines bytes))
 
 abbrev pub is_digit : ℕ → ℕ → Bool
 is_digit radix b = nat_lt (digit_value b) radix

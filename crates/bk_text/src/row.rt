@@ -1,4 +1,5 @@
-ghost use Rattle.std.specs.Prelude.{◌≡◌, ◌+◌, ◌<◌, ◌≤◌, ◌^◌, ◌∷◌, [], length, nat_lt, IfSome, IfNone};
+ghost use Rattle.std.specs.Prelude.{◌≡◌, ◌+◌, ◌<◌, ◌≤◌, ◌^◌, ◌∷◌, [], length, IfSome, IfNone};
+ghost use Rattle.bk_text.specs.Texts.{is_nonempty};
 ghost use Rattle.bk_text.specs.Rows.{Marked, words_from, row_of};
 
 use crate::scan::{blanks_len, first_bad, first_index, word_len};
@@ -88,7 +89,7 @@ impl<'a> Row<'a> {
 
     /// Whether a word is left.
     pub fn has_word(&self) -> bool
-        ensures { result ≡ nat_lt 0 (length self.now.words) }
+        ensures { result ≡ is_nonempty self.now.words }
     {
         cut_word(self.column, self.rest).is_some()
     }

@@ -6,7 +6,7 @@ use Rattle.std.specs.Str.Lines.{lines}
 use Rattle.bk_base.specs.Places.{Shape, is_small_count, is_set_count}
 use Rattle.bk_base.specs.declared.op.Op.{Op}
 use Rattle.bk_base.specs.declared.op.Op.TheVariants.{Load, Store, UcLoad, UcStore, Evict}
-use Rattle.bk_text.specs.Texts.{is_text_byte, number_of}
+use Rattle.bk_text.specs.Texts.{is_text_byte, is_nonempty, number_of}
 use Rattle.bk_text.specs.Rows.{Marked, LineWords, row_of}
 use Rattle.bk_trace.specs.Traces.{Parts}
 use Rattle.bk_trace.specs.Grammar.{comment_mark, number_below, count_of, address_of, is_config, name_of}
@@ -159,7 +159,7 @@ config_from line [] = Err no_config
 config_from line (text ∷ texts) = on_line line (first_at (row_at text) (row_at text).words) >>= λ first. found first (line + 1) texts (config_from (line + 1) texts)
 
 abbrev pub has_words : List ℕ → Bool
-has_words text = nat_lt 0 (length (row_at text).words)
+has_words text = is_nonempty (row_at text).words
 
 -- the trace of these lines, with at most so many operations
 unfoldable pub lines_read : ℕ → List (List ℕ) → Result Parts Bad

@@ -15,12 +15,15 @@
 #![tactic(auto)]
 
 mod fault;
+mod draws;
 mod line;
 mod read;
 
 mod trace;
 mod words;
+mod write;
 
 pub use fault::{Kind, TraceFault};
 
+pub use draws::generate;
 pub use trace::{OPERATION_LIMIT, Trace};
