@@ -1,3 +1,5 @@
+pub mod Agrees
 pub mod Generated
 pub mod Index
 pub mod Loop
+pub mod Texts

@@ -1,10 +1,10 @@
 -- Reading the lines of a trace one after the other, as a loop does.
-use Rattle.std.proofs.Common.{◌≡◌, ℕ, ◌+◌, List, [], ◌∷◌, ◌++◌, length, Option, Some, None, Result, Ok, Err, refl, sym, ap, ◌∙◌, append_assoc}
+use Rattle.std.proofs.Common.{◌≡◌, ℕ, ◌+◌, List, [], ◌∷◌, ◌++◌, length, Some, None, Result, Ok, Err, refl, sym, ap, append_assoc}
 use Rattle.std.proofs.lemmas.List.{append-nil, length_push}
 use Rattle.bk_base.specs.declared.op.Op.{Op}
 use Rattle.bk_trace.specs.declared.fault.At.{At}
 use Rattle.bk_trace.specs.Faults.{Bad, bad}
-use Rattle.bk_trace.specs.Reading.{◌>>=◌, on_line, row_at, line_at, lines_at, first_at, config_from, found}
+use Rattle.bk_trace.specs.Reading.{◌>>=◌, row_at, line_at, lines_at, first_at, config_from}
 use Rattle.bk_base.specs.Places.{Shape}
 
 -- what was read before, and what is still read

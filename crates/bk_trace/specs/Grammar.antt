@@ -1,5 +1,5 @@
 -- The grammar of traces: what a text spells.
-use Rattle.std.specs.Prelude.{◌≡◌, ℕ, Bool, List, [], ◌∷◌, length, codes, Option, Some, None, option_and_then, nat_lt, nat_le, if◌then◌else◌}
+use Rattle.std.specs.Prelude.{ℕ, Bool, List, [], ◌∷◌, length, codes, Option, Some, None, option_and_then, nat_lt, nat_le, if◌then◌else◌}
 use Rattle.std.specs.Option.{option_map}
 use Rattle.std.specs.Str.{bytes_eq}
 use Rattle.bk_base.specs.Places.{Shape, is_small_count, is_set_count, addr_of}
