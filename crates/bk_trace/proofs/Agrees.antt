@@ -1,5 +1,5 @@
 -- A line is read exactly where it is of the grammar.
-use Rattle.std.proofs.Common.{◌≡◌, ℕ, ◌⊎◌, inl, inr, Bool, true, false, ◌&&◌, cond, List, [], ◌∷◌, map, refl, sym, ap, ◌∙◌}
+use Rattle.std.proofs.Common.{◌≡◌, ℕ, Bool, true, false, ◌&&◌, cond, List, [], ◌∷◌, map, refl, sym, ap, ◌∙◌}
 use Rattle.std.specs.Prelude.{Option, Some, None, is_none, option_and_then, Result, Ok, Err}
 use Rattle.std.specs.Option.{option_map}
 use Rattle.std.specs.List.{list_all}
@@ -8,7 +8,6 @@ use Rattle.bk_base.specs.declared.op.Op.{Op}
 use Rattle.bk_base.specs.declared.op.Op.TheVariants.{Load, Store, UcLoad, UcStore, Evict}
 use Rattle.bk_text.specs.Texts.{is_text_byte, number_of}
 use Rattle.bk_text.specs.Rows.{Marked, LineWords}
-use Rattle.bk_text.proofs.Rows.{tested}
 use Rattle.bk_text.proofs.Laws.{bytes_of, is_text_word, is_text_row}
 use Rattle.bk_trace.specs.Grammar.{number_below, count_of, address_of, is_config, shape_of, name_of, op_of, operation_of}
 use Rattle.bk_trace.specs.Reading.{◌>>=◌, or_wrong, field, fault_behind, unless, done, config_word, config_at, op_at, operation_at}

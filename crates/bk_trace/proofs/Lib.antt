@@ -3,3 +3,4 @@ pub mod Generated
 pub mod Index
 pub mod Loop
 pub mod Texts
+pub mod Whole
