@@ -11,7 +11,7 @@ use Rattle.bk_text.specs.Rows.{words_from}
 use Rattle.bk_text.specs.Items.{line_items, items_of_pieces, items_of}
 use Rattle.bk_text.specs.declared.lines.Word.TheVariants as items
 
-lines_of_parts-cons : (x : List ℕ) (parts : List (List ℕ)) → 0 < length parts → lines_of_parts (x ∷ parts) ≡ strip_carriage_return x ∷ lines_of_parts parts
+pub lines_of_parts-cons : (x : List ℕ) (parts : List (List ℕ)) → 0 < length parts → lines_of_parts (x ∷ parts) ≡ strip_carriage_return x ∷ lines_of_parts parts
 lines_of_parts-cons x [] h = absurd (omega arith)
 lines_of_parts-cons x (y ∷ more) h = refl
 

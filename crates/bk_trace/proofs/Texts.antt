@@ -17,11 +17,11 @@ use Rattle.bk_trace.specs.declared.words.Name.{Name}
 abbrev pub IsTextual : {X : Type 0} → (List ℕ → Option X) → Type 0
 IsTextual {X} read = (word : List ℕ) (x : X) → read word ≡ Some x → list_all is_text_byte word ≡ true
 
-and_parts : (a b : Bool) → a && b ≡ true → (a ≡ true) × (b ≡ true)
+pub and_parts : (a b : Bool) → a && b ≡ true → (a ≡ true) × (b ≡ true)
 and_parts true b e = (refl, e)
 and_parts false b e = absurd cc
 
-both : (a b : Bool) → a ≡ true → b ≡ true → a && b ≡ true
+pub both : (a b : Bool) → a ≡ true → b ≡ true → a && b ≡ true
 both true b e f = f
 both false b e f = absurd cc
 
@@ -73,7 +73,7 @@ pub address_textual : IsTextual address_of
 unfolding address_of
 address_textual word n e = by_number _ word n e
 
-literal : (word text : List ℕ) → list_all is_text_byte text ≡ true → bytes_eq word text ≡ true → list_all is_text_byte word ≡ true
+pub literal : (word text : List ℕ) → list_all is_text_byte text ≡ true → bytes_eq word text ≡ true → list_all is_text_byte word ≡ true
 literal word text plain e = ap (list_all is_text_byte) ((bytes_eq-Decides word text).0 e) ∙ plain
 
 pub config_textual : IsTextual config_word

@@ -1,6 +1,6 @@
 -- A text is read exactly where it is of the grammar.
-use Rattle.std.proofs.Common.{◌≡◌, ℕ, suc, ◌+◌, ◌<◌, ◌≤◌, inl, inr, Bool, true, false, ◌&&◌, ◌||◌, cond, List, [], ◌∷◌, length, map, refl, sym, ap, ◌∙◌, zero-add, arith}
-use Rattle.std.specs.Prelude.{Option, Some, None, is_none, option_and_then, nat_lt, nat_le, Result, Ok, Err}
+use Rattle.std.proofs.Common.{◌≡◌, ℕ, suc, ◌+◌, ◌<◌, ◌≤◌, inl, inr, Bool, true, false, ◌&&◌, ◌||◌, cond, List, [], ◌∷◌, length, map, refl, sym, ap, ◌∙◌, zero-add, subst, arith}
+use Rattle.std.specs.Prelude.{Option, Some, None, is_none, option_and_then, nat_lt, nat_le, Result, Ok, Err, IfOk}
 use Rattle.std.specs.Option.{option_map}
 use Rattle.std.specs.List.{list_all, list_any, filter, cons_option}
 use Rattle.std.specs.Str.Lines.{lines}
@@ -12,7 +12,8 @@ use Rattle.bk_text.specs.Rows.{Marked, LineWords}
 use Rattle.bk_text.proofs.Rows.{tested}
 use Rattle.bk_text.proofs.Laws.{bytes_of, is_text_word, is_text_row, text_in_row, words_in_row}
 use Rattle.bk_trace.specs.Traces.{Parts}
-use Rattle.bk_trace.specs.Faults.{Bad, bad}
+use Rattle.bk_trace.specs.Faults.{Bad, bad, Gives}
+use Rattle.bk_trace.specs.declared.fault.TraceFault.{TraceFault}
 use Rattle.bk_trace.specs.Grammar.{comment_mark, number_below, shape_of, operation_of, lines_of, parts_of, trace_of}
 use Rattle.bk_trace.specs.Reading.{◌>>=◌, config_at, operation_at, surplus, line_at, on_line, row_at, counted, lines_at, no_config, first_at, found, config_from, has_words, lines_read, trace_at}
 use Rattle.bk_trace.specs.declared.fault.At.{At}
@@ -221,3 +222,16 @@ agrees text = elim (tested (list_any has_words (lines text))) [
     | inl e ↦ ap (λ t. ok_of (cond t (lines_read 10000 (lines text)) (Err no_config))) e ∙ lines_read_agrees (lines text)
     | inr e ↦ ap (λ t. ok_of (cond t (lines_read 10000 (lines text)) (Err no_config))) e ∙ nothing_read (lines text) (no_rows (lines text) e)
   ]
+
+-- ---- what a call answers
+
+read_some : (r : Result Parts Bad) (p : Parts) → ok_of r ≡ Some p → r ≡ Ok p
+read_some (Ok q) p e = cc
+read_some (Err b) p e = absurd cc
+
+pub is_found : (text : List ℕ) (r : Result Parts TraceFault) → Gives (λ t. t) r (trace_at text) → IfOk r (λ t. trace_of text ≡ Some t)
+is_found text (Ok t) given = sym (agrees text) ∙ ap ok_of given
+is_found text (Err e) given = tt
+
+pub is_only : (text : List ℕ) (r : Result Parts TraceFault) (p : Parts) → Gives (λ t. t) r (trace_at text) → trace_of text ≡ Some p → Gives (λ t. t) r (Ok p)
+is_only text r p given e = subst (λ (read : Result Parts Bad). Gives (λ t. t) r read) (read_some (trace_at text) p (agrees text ∙ e)) given

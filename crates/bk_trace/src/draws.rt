@@ -1,6 +1,6 @@
 ghost use Rattle.std.specs.Prelude.{◌≡◌, ◌+◌, ◌*◌, ◌/◌, ◌<◌, ◌≤◌, ◌^◌, length, IfOk};
 ghost use Rattle.std.specs.List.{All};
-ghost use Rattle.bk_trace.specs.Traces.{Parts};
+ghost use Rattle.bk_trace.specs.Traces.{Parts, IsOp, IsLine};
 ghost use Rattle.bk_trace.specs.Generator.{drawn, given, op_of_sixteen, address_of_draws, operation_of_draws, generated};
 
 use crate::trace::Trace;
@@ -28,7 +28,8 @@ impl Draws {
 /// The operation that a number from 0 to 15 names.
 fn op_of_sixteen(n: u64, address: Addr, value: u64) -> Op
     requires { n < 16 }
-    ensures { result ≡ op_of_sixteen n address value }
+    ensures value { result ≡ op_of_sixteen n address value }
+    ensures op { IsOp result }
 {
     match n {
         0..=6 => Op::Load(address),
@@ -55,7 +56,7 @@ fn next_operation(config: Config, number: u64, draws: &mut Draws) -> (u8, Op)
     ensures operation { let a = drawn draws.old.state in let b = drawn a in let c = drawn b in
         result ≡ operation_of_draws config number a b c (drawn c) }
     ensures state { draws.new.state ≡ drawn (drawn (drawn (drawn draws.old.state))) }
-    ensures below { result.0 < config.caches }
+    ensures line { IsLine config.caches result }
 {
     let cache = (draws.next() % config.caches as u64) as u8;
     let name = draws.next() % 16;
@@ -72,7 +73,7 @@ fn operations_of_draws(
     operations: u32,
 ) -> Result<Vec<(u8, Op)>, AllocError>
     ensures value { IfOk result (λ v. v.items ≡ generated config seed 1 operations) }
-    ensures below { IfOk result (λ v. All (λ line. line.0 < config.caches) v.items) }
+    ensures each { IfOk result (λ v. All (λ line. IsLine config.caches line) v.items) }
     ensures length { IfOk result (λ v. length v.items ≡ operations) }
 {
     let mut lines = Vec::new(alloc);

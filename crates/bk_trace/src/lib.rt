@@ -26,4 +26,5 @@ mod write;
 pub use fault::{Kind, TraceFault};
 
 pub use draws::generate;
+pub use read::read_trace;
 pub use trace::{OPERATION_LIMIT, Trace};

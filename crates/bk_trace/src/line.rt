@@ -1,6 +1,7 @@
 ghost use Rattle.std.specs.Prelude.{◌≡◌, ◌<◌, IfOk, IfSome, IsTrue};
 ghost use Rattle.bk_base.specs.Places.{InProfile, is_small_count, is_set_count};
 ghost use Rattle.bk_text.specs.Texts.{number_of};
+ghost use Rattle.bk_trace.specs.Traces.{IsOp, IsLine};
 ghost use Rattle.bk_trace.specs.Grammar.{number_below, count_of, address_of, name_of};
 ghost use Rattle.bk_trace.specs.Reading.{wrong, missing, word_in, field, fault_behind, config_word, config_at, op_at, operation_at, surplus, line_at, first_at, Steps};
 ghost use Rattle.bk_trace.specs.declared.fault.Kind.TheVariants as kinds;
@@ -179,7 +180,8 @@ fn config_at(row: &mut Row<'_>) -> Result<Config, At>
 /// The operation of this name at an address, with its value.
 #[tactic(auto, unfolding(crate::specs::Reading::op_at))]
 fn op_at(name: Name, address: Addr, row: &mut Row<'_>) -> Result<Op, At>
-    ensures { Steps (λ x. x) result row.new (op_at name address row.old) }
+    ensures value { Steps (λ x. x) result row.new (op_at name address row.old) }
+    ensures op { IfOk result (λ op. IsOp op) }
 {
     match name {
         Name::Load => Ok(Op::Load(address)),
@@ -194,7 +196,7 @@ fn op_at(name: Name, address: Addr, row: &mut Row<'_>) -> Result<Op, At>
 #[tactic(auto, unfolding(crate::specs::Reading::operation_at))]
 fn operation_at(caches: u8, row: &mut Row<'_>) -> Result<(u8, Op), At>
     ensures value { result ≡ operation_at caches row.old }
-    ensures below { IfOk result (λ line. line.0 < caches) }
+    ensures line { IfOk result (λ line. IsLine caches line) }
 {
     let cache = cache_at(caches, row)?;
     let name = name_at(row)?;
@@ -223,7 +225,7 @@ fn surplus(caches: u8, word: Placed<'_>) -> At
 #[tactic(auto, unfolding(crate::specs::Reading::line_at))]
 pub(crate) fn line_at(caches: u8, count: usize, row: &mut Row<'_>) -> Result<Option<(u8, Op)>, At>
     ensures value { result ≡ line_at 10000 caches count row.old row.old.words }
-    ensures below { IfOk result (λ found. IfSome found (λ line. line.0 < caches)) }
+    ensures line { IfOk result (λ found. IfSome found (λ line. IsLine caches line)) }
     ensures few { IfOk result (λ found. IfSome found (λ line. count < 10000)) }
 {
     if !row.has_word() {

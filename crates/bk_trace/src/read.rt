@@ -1,8 +1,9 @@
-ghost use Rattle.std.specs.Prelude.{◌≡◌, ◌+◌, ◌<◌, ◌≤◌, ◌^◌, length, map, Some, Ok, IfOk, IsErrOf};
+ghost use Rattle.std.specs.Prelude.{◌≡◌, ◌+◌, ◌<◌, ◌≤◌, ◌^◌, ◌++◌, length, Some, Ok, IfOk, OnOk, option_to_list};
 ghost use Rattle.std.specs.List.{All, list_any};
 ghost use Rattle.std.specs.Str.Lines.{lines};
 ghost use Rattle.bk_base.specs.Places.{InProfile};
-ghost use Rattle.bk_trace.specs.Traces.{Parts, IsTrace};
+ghost use Rattle.bk_trace.specs.Traces.{Parts, IsTrace, IsLine};
+ghost use Rattle.bk_trace.specs.Grammar.{trace_of};
 ghost use Rattle.bk_trace.specs.Faults.{fault_of, Gives};
 ghost use Rattle.bk_trace.specs.Reading.{no_config, has_words, config_from, lines_at, lines_read, trace_at};
 
@@ -11,7 +12,7 @@ use crate::line::{first_at, line_at};
 use crate::trace::Trace;
 use bk_base::{Config, Op};
 use bk_text::{Row, cut_line};
-use std::alloc::Global;
+use std::alloc::{AllocError, Global};
 
 /// What begins a comment.
 const COMMENT: u8 = b'#';
@@ -71,6 +72,16 @@ fn config_from(text: &[u8]) -> Result<(Config, u64, &[u8]), TraceFault>
     Err(no_config())
 }
 
+/// Keeps what was found in a line.
+fn keep(operations: &mut Vec<(u8, Op)>, found: Option<(u8, Op)>) -> Result<(), AllocError>
+    ensures { OnOk result (operations.new.items ≡ operations.old.items ++ option_to_list found) }
+{
+    if let Some(operation) = found {
+        operations.push(operation)?;
+    }
+    Ok(())
+}
+
 /// The operations of the lines of a text, of which the first has this number.
 #[tactic(auto, unfolding(crate::specs::Reading::lines_at))]
 fn operations(
@@ -82,18 +93,18 @@ fn operations(
     requires { first + length text.now + 1 < 2 ^ 64 }
     ensures value { Gives (λ v. v.items) result (lines_at 10000 caches 0 first (lines text.now)) }
     ensures few { IfOk result (λ v. length v.items ≤ 10000) }
-    ensures below { IfOk result (λ v. All (λ line. line.0 < caches) v.items) }
+    ensures each { IfOk result (λ v. All (λ line. IsLine caches line) v.items) }
 {
     let mut operations = Vec::new(alloc);
     let mut rest = text;
     let mut line = first;
     while !rest.is_empty() {
         let (front, after) = cut_line(rest);
-        match line_at(caches, operations.len(), &mut Row::of(COMMENT, front)) {
-            Ok(Some(operation)) => operations.push(operation)?,
-            Ok(None) => (),
+        let found = match line_at(caches, operations.len(), &mut Row::of(COMMENT, front)) {
+            Ok(found) => found,
             Err(fault) => return Err(fault.on_line(line)),
-        }
+        };
+        keep(&mut operations, found)?;
         rest = after;
         line += 1;
     }
@@ -114,4 +125,24 @@ fn read(alloc: Global, text: &[u8]) -> Result<Trace, TraceFault>
     };
     let lines = operations(alloc, config.caches, line, rest)?;
     Ok(Trace::make(alloc, config, lines)?)
+}
+
+/// The trace that a text spells, or the first fault of the text; at one place that of the least kind.
+///
+/// A fault of a word stands at its first byte, and of a missing word in the column after the line's
+/// last byte. `Kind` has the kinds; a text without any word outside comments is `Kind::Config` at
+/// line 1, column 1.
+///
+/// # Errors
+///
+/// `Bad` if the text spells no trace, `Memory` if memory runs out.
+pub fn read_trace(alloc: Global, text: &[u8]) -> Result<Trace, TraceFault>
+    // What is read is spelled so.
+    ensures found { IfOk result (λ t. trace_of text.now ≡ Some t) }
+    // What is spelled so is read, unless memory runs out.
+    ensures only { (p : Parts) → trace_of text.now ≡ Some p → Gives (λ t. t) result (Ok p) }
+    // Which fault it is.
+    ensures exact { Gives (λ t. t) result (trace_at text.now) }
+{
+    read(alloc, text)
 }
