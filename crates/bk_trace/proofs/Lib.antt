@@ -6,3 +6,4 @@ pub mod Loop
 pub mod Round
 pub mod Texts
 pub mod Whole
+pub mod Written

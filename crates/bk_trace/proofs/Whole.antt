@@ -225,7 +225,7 @@ agrees text = elim (tested (list_any has_words (lines text))) [
 
 -- ---- what a call answers
 
-read_some : (r : Result Parts Bad) (p : Parts) → ok_of r ≡ Some p → r ≡ Ok p
+pub read_some : (r : Result Parts Bad) (p : Parts) → ok_of r ≡ Some p → r ≡ Ok p
 read_some (Ok q) p e = cc
 read_some (Err b) p e = absurd cc
 

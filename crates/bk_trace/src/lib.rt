@@ -28,3 +28,4 @@ pub use fault::{Kind, TraceFault};
 pub use draws::generate;
 pub use read::read_trace;
 pub use trace::{OPERATION_LIMIT, Trace};
+pub use write::write_trace;

@@ -1,5 +1,8 @@
-ghost use Rattle.std.specs.Prelude.{◌≡◌, ◌++◌, OnOk, IfOk, string_bytes};
+ghost use Rattle.std.specs.Prelude.{◌≡◌, ◌++◌, Some, Ok, OnOk, IfOk, string_bytes};
 ghost use Rattle.std.specs.List.{flat_map};
+ghost use Rattle.bk_trace.specs.Traces.{IsTrace};
+ghost use Rattle.bk_trace.specs.Grammar.{trace_of};
+ghost use Rattle.bk_trace.specs.Reading.{trace_at};
 ghost use Rattle.bk_trace.specs.Spelling.{line_text, config_text, spelling};
 
 use crate::trace::Trace;
@@ -42,10 +45,23 @@ fn push_lines(out: &mut String, lines: &[(u8, Op)]) -> Result<(), AllocError>
 
 /// The text of a trace.
 fn text_of(alloc: Global, trace: &Trace) -> Result<Vec<u8>, AllocError>
-    ensures { IfOk result (λ v. v.items ≡ spelling trace.now) }
+    ensures text { IfOk result (λ v. v.items ≡ spelling trace.now) }
+    ensures trace { OnOk result (IsTrace trace.now) }
 {
     let mut out = String::new(alloc);
     push_config(&mut out, trace.config())?;
     push_lines(&mut out, trace.lines())?;
     Ok(out.into_bytes())
+}
+
+/// The canonical text of a trace: addresses are `0x` and lower-case digits with no leading zero, other
+/// numbers decimal, one blank stands between words, and LF ends each line. Fails only where memory
+/// runs out.
+pub fn write_trace(alloc: Global, trace: &Trace) -> Result<Vec<u8>, AllocError>
+    ensures text { IfOk result (λ v. v.items ≡ spelling trace.now) }
+    // What is written spells the trace, and is read as that trace again.
+    ensures spells { IfOk result (λ v. trace_of v.items ≡ Some trace.now) }
+    ensures again { IfOk result (λ v. trace_at v.items ≡ Ok trace.now) }
+{
+    text_of(alloc, trace)
 }

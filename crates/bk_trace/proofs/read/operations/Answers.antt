@@ -1,6 +1,5 @@
-use Rattle.std.proofs.Common.{◌≡◌, ◌+◌, Ok, sym, ap, ◌∙◌, length, arith}
+use Rattle.std.proofs.Common.{◌≡◌, Ok, sym, ap, ◌∙◌, length, arith}
 use Rattle.std.specs.Str.Lines.{lines}
-use Rattle.std.proofs.lemmas.Grind.{common_steps}
 use Rattle.bk_trace.specs.Reading.{row_at, line_at, lines_at}
 use Rattle.bk_trace.proofs.Loop.{with_front, goes_on, few_kept, each_kept}
 use Rattle.bk_trace.proofs.read.operations.Goals as goal
