@@ -5,7 +5,7 @@ use Rattle.bk_image.specs.Faults.{Bad}
 use Rattle.bk_image.specs.Images as images
 use Rattle.bk_image.specs.Reading.{image_at}
 use Rattle.bk_trace.specs.Traces as traces
-use Rattle.bk_trace.specs.Reading.{trace_of}
+use Rattle.bk_trace.specs.Grammar.{trace_of}
 use Rattle.bk_cmd.specs.Unbuilt.{is_built, is_replayed}
 
 -- An instruction that isn't built yet is a fault of kind 0, at its word: a header has 16 bytes, a word 8.

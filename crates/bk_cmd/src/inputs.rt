@@ -52,7 +52,7 @@ fn runnable_trace(alloc: Global, text: &[u8]) -> Result<Trace, Stop>
                 Err(Stop::BadTrace)
             }
         }
-        Err(TraceFault::Bad) => Err(Stop::BadTrace),
+        Err(TraceFault::Bad { .. }) => Err(Stop::BadTrace),
         Err(TraceFault::Memory) => Err(Stop::Memory),
     }
 }

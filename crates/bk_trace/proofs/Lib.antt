@@ -1,5 +1,6 @@
 pub mod Again
 pub mod Agrees
+pub mod Examples
 pub mod Generated
 pub mod Index
 pub mod Loop

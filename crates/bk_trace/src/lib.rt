@@ -29,3 +29,6 @@ pub use draws::generate;
 pub use read::read_trace;
 pub use trace::{OPERATION_LIMIT, Trace};
 pub use write::write_trace;
+
+#[cfg(test)]
+mod tests;
