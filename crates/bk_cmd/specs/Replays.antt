@@ -17,7 +17,7 @@ pub record OfInputs (files : Files) (image_name trace_name : List ℕ) (Holds : 
   pub image : images.Parts
   pub trace : traces.Parts
   pub image_is : ImageIs files image_name (Ok image)
-  pub trace_is : TraceIs files trace_name (Some trace)
+  pub trace_is : TraceIs files trace_name (Ok trace)
   pub holds : Holds image trace
 
 abbrev pub budget_for : images.Parts → traces.Parts → ℕ

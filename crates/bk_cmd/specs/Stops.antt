@@ -4,6 +4,7 @@ use Rattle.std.specs.Global.{Vec}
 use Rattle.bk_outer.specs.declared.shelf.TheConstants.{FILE_LIMIT}
 use Rattle.bk_image.specs.Faults as faults
 use Rattle.bk_image.specs.Images as images
+use Rattle.bk_trace.specs.Faults as trace_faults
 use Rattle.bk_trace.specs.Traces as traces
 use Rattle.bk_cmd.specs.Answers.{Answer, Due, Refuses, Fault, bad_at, VerifySays}
 use Rattle.bk_cmd.specs.Inputs.{Files, FileHolds, ImageIs, TraceIs, AfterImage}
@@ -12,6 +13,10 @@ use Rattle.bk_cmd.specs.declared.outcome.Unread as unread
 use Rattle.bk_cmd.specs.declared.outcome.Unread.TheVariants.{Absent, Failed, TooLong}
 use Rattle.bk_cmd.specs.declared.outcome.Stop.{Stop}
 use Rattle.bk_cmd.specs.declared.outcome.Stop.TheVariants.{Memory, Usage, Unread, Bad, Refused}
+
+-- a fault of a text, in a line and a column
+abbrev pub bad_in : ℕ → ℕ → ℕ → trace_faults.Bad
+bad_in line column kind = record { line = line; column = column; kind = kind }
 
 -- ---- what a reader of bytes answers
 
@@ -23,10 +28,10 @@ GivesImage (Err (Bad file at column kind)) read = (file ≡ 1) × (column ≡ 0)
 GivesImage (Err _) read = ⊥
 
 -- the bytes of a trace read so, or memory ran out
-abbrev pub GivesTrace : Result traces.Parts Stop → Option traces.Parts → Type 0
-GivesTrace (Ok trace) read = read ≡ Some trace
+abbrev pub GivesTrace : Result traces.Parts Stop → Result traces.Parts trace_faults.Bad → Type 0
+GivesTrace (Ok trace) read = read ≡ Ok trace
 GivesTrace (Err Memory) read = Unit {0}
-GivesTrace (Err (Bad file at column kind)) read = (file ≡ 2) × (at ≡ 0) × (column ≡ 0) × (kind ≡ 0) × (read ≡ None)
+GivesTrace (Err (Bad file at column kind)) read = (file ≡ 2) × (read ≡ Err (bad_in at column kind))
 GivesTrace (Err _) read = ⊥
 
 -- a command of one file says so, or memory ran out
@@ -62,7 +67,7 @@ IsImageStop files name failed missed _ = ⊥
 abbrev pub IsTraceStop : Files → List ℕ → Type 0 → Type 0 → Stop → Type 0
 IsTraceStop files name failed missed Memory = Unit {0}
 IsTraceStop files name failed missed (Unread file cause) = (file ≡ 2) × IsUnread files name failed missed cause
-IsTraceStop files name failed missed (Bad file at column kind) = (file ≡ 2) × (at ≡ 0) × (column ≡ 0) × (kind ≡ 0) × TraceIs files name None
+IsTraceStop files name failed missed (Bad file at column kind) = (file ≡ 2) × TraceIs files name (Err (bad_in at column kind))
 IsTraceStop files name failed missed _ = ⊥
 
 -- ---- commands
@@ -77,11 +82,11 @@ abbrev pub Says : Files → Command → Answer → Type 0
 Says files (Verify image) answer = FileHolds files image (λ bytes. VerifySays bytes answer)
 Says files (Replay image trace) answer = ⊥
 
--- the first fault of the image; or that the trace is none, after an image that is fit to run
+-- the first fault of the image; or that of the trace, after an image that is fit to run
 abbrev pub IsBadInput : Files → List ℕ → List ℕ → ℕ → ℕ → ℕ → ℕ → Type 0
 IsBadInput files image trace file at column kind =
     ((file ≡ 1) × (column ≡ 0) × ImageIs files image (Err (bad_at at kind)))
-    ⊎ ((file ≡ 2) × (at ≡ 0) × (column ≡ 0) × (kind ≡ 0) × AfterImage files image (TraceIs files trace None))
+    ⊎ ((file ≡ 2) × AfterImage files image (TraceIs files trace (Err (bad_in at column kind))))
 
 -- the file of this number has this fault
 abbrev pub IsBad : Files → Command → ℕ → ℕ → ℕ → ℕ → Type 0

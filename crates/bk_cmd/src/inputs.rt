@@ -71,21 +71,25 @@ fn runnable_image(alloc: Global, bytes: &[u8]) -> Result<Image, Stop>
 fn runnable_trace(alloc: Global, text: &[u8]) -> Result<Trace, Stop>
     ensures { GivesTrace result (runnable_trace text.now) }
 {
-    let unfit = Stop::Bad {
-        file: SECOND,
-        at: 0,
-        column: 0,
-        kind: UNBUILT,
-    };
     match read_trace(alloc, text) {
         Ok(trace) => {
             if are_replayed(trace.lines()) {
                 Ok(trace)
             } else {
-                Err(unfit)
+                Err(Stop::Bad {
+                    file: SECOND,
+                    at: 0,
+                    column: 0,
+                    kind: UNBUILT,
+                })
             }
         }
-        Err(TraceFault::Bad) => Err(unfit),
+        Err(TraceFault::Bad { line, column, kind }) => Err(Stop::Bad {
+            file: SECOND,
+            at: line,
+            column,
+            kind,
+        }),
         Err(TraceFault::Memory) => Err(Stop::Memory),
     }
 }
@@ -143,7 +147,7 @@ fn image_of<H: Shelf>(alloc: Global, shelf: &mut H, name: &str) -> Result<Image,
 
 /// Reads the trace of a replay.
 fn trace_of<H: Shelf>(alloc: Global, shelf: &mut H, name: &str) -> Result<Trace, Stop>
-    ensures ok { IfOk result (λ trace. TraceIs (H.files shelf.old) name.now (Some trace)) }
+    ensures ok { IfOk result (λ trace. TraceIs (H.files shelf.old) name.now (Ok trace)) }
     ensures err { IfErr result (IsTraceStop (H.files shelf.old) name.now
         (Rose (H.faults shelf.old) (H.faults shelf.new)) (Rose (H.misses shelf.old) (H.misses shelf.new))) }
     ensures same_files { H.files shelf.new ≡ H.files shelf.old }
@@ -166,7 +170,7 @@ pub(crate) fn inputs_of<H: Shelf>(
     trace_name: &str,
 ) -> Result<Inputs, Stop>
     ensures image { IfOk result (λ i. ImageIs (H.files shelf.old) image_name.now (Ok i.image)) }
-    ensures trace { IfOk result (λ i. TraceIs (H.files shelf.old) trace_name.now (Some i.trace)) }
+    ensures trace { IfOk result (λ i. TraceIs (H.files shelf.old) trace_name.now (Ok i.trace)) }
     ensures stop { IfErr result (IsStop (H.files shelf.old) (Replay image_name.now trace_name.now)
         (Rose (H.faults shelf.old) (H.faults shelf.new)) (Rose (H.misses shelf.old) (H.misses shelf.new))) }
     ensures same_files { H.files shelf.new ≡ H.files shelf.old }

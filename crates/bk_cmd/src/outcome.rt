@@ -2,7 +2,6 @@ ghost use Rattle.std.specs.Prelude.{◌≡◌, []};
 ghost use Rattle.bk_cmd.specs.Outcomes.{is_limit, facts_of, facts_of_stop, after_run};
 
 use bk_check::Refusal;
-use bk_image::Kind;
 use bk_system::Event;
 use std::alloc::Global;
 
@@ -36,9 +35,9 @@ pub struct Outcome {
     pub status: u8,
     /// 1 or 2: the first or the second file that the words name, where the status is of a file.
     pub file: u8,
-    /// Where the fault of a file lies: the byte of an image.
+    /// Where the fault of a file lies: the byte of an image, the line of a trace.
     pub at: u64,
-    /// Always 0: no file is told by lines yet.
+    /// The column of the fault in its line, and 0 in an image.
     pub column: u64,
     /// The kind of a file's fault, and 0 where the file as a whole is too long.
     pub kind: u8,
@@ -90,7 +89,7 @@ pub(crate) enum Stop {
 fn is_limit(kind: u8) -> bool
     ensures { result ≡ is_limit kind }
 {
-    kind == Kind::TooMany.code()
+    kind == bk_image::Kind::TooMany.code() || kind == bk_trace::Kind::TooMany.code()
 }
 
 /// The outcome of a command that was not begun, with this status of a file, or of none.

@@ -56,17 +56,30 @@ fn push_words(out: &mut ArrayVec<u8, 96>, words: &[u64])
     }
 }
 
-/// The one spelling of a message (docs/MESSAGES.md), and the stamp that goes with it.
-pub fn encode(message: &Message, stamp: u64) -> Packet
-    ensures bytes { result.bytes.items ≡ spelling message.now }
-    ensures stamp { result.stamp ≡ stamp }
+/// The bytes of a row (docs/MESSAGES.md): 16, 24 or 80 of them. A row that is in range is a message, and these are its
+/// one spelling.
+pub fn spell(row: &Row) -> ArrayVec<u8, 96>
+    ensures { result.items ≡ spelling row.now }
 {
-    let fields = fields_of(message.row());
+    let copy = *row;
+    let fields = fields_of(copy);
     let mut bytes = ArrayVec::new();
     push(&mut bytes, &header(fields));
     push(&mut bytes, &fields.addr.value().to_le_bytes());
     push_words(&mut bytes, fields.payload.words());
-    Packet { bytes, stamp }
+    bytes
+}
+
+/// The one spelling of a message, and the stamp that goes with it.
+pub fn encode(message: &Message, stamp: u64) -> Packet
+    ensures bytes { result.bytes.items ≡ spelling message.now }
+    ensures stamp { result.stamp ≡ stamp }
+{
+    let row = message.row();
+    Packet {
+        bytes: spell(&row),
+        stamp,
+    }
 }
 
 /// The first byte, of those from place 1 on, that its rule doesn't admit.

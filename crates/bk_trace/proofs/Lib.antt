@@ -1,3 +1,10 @@
+pub mod Again
+pub mod Agrees
 pub mod Examples
+pub mod Generated
 pub mod Index
-pub mod Reading
+pub mod Loop
+pub mod Round
+pub mod Texts
+pub mod Whole
+pub mod Written

@@ -1,8 +1,9 @@
 -- A trace: a configuration, and operations of its caches.
-use Rattle.std.specs.Prelude.{ℕ, ◌<◌, ◌≤◌, List, [], ◌∷◌, length, map, ◌==◌, if◌then◌else◌}
+use Rattle.std.specs.Prelude.{ℕ, ◌<◌, ◌≤◌, ◌^◌, List, [], ◌∷◌, length, map, ◌==◌, if◌then◌else◌}
 use Rattle.std.specs.List.{All, range_with_len}
-use Rattle.bk_base.specs.Places.{Shape, InProfile}
+use Rattle.bk_base.specs.Places.{Shape, InProfile, IsAddr}
 use Rattle.bk_base.specs.declared.op.Op.{Op}
+use Rattle.bk_base.specs.declared.op.Op.TheVariants.{Load, Store, UcLoad, UcStore, Evict}
 
 -- the configuration, and the operations, each with its cache
 pub record Parts : Type 0 where
@@ -18,8 +19,21 @@ operations_of cache (line ∷ lines) = if line.0 == cache then line.1 ∷ operat
 abbrev pub index_of : ℕ → List (ℕ × Op) → List (List Op)
 index_of caches lines = map (λ cache. operations_of cache lines) (range_with_len 0 caches)
 
+-- the numbers of an operation: an address, and a value of 64 bits
+abbrev pub IsOp : Op → Type 0
+IsOp (Load address) = IsAddr address
+IsOp (Store address value) = IsAddr address × (value < 2 ^ 64)
+IsOp (UcLoad address) = IsAddr address
+IsOp (UcStore address value) = IsAddr address × (value < 2 ^ 64)
+IsOp (Evict address) = IsAddr address
+
+-- an operation of one of so many caches
+pub record IsLine (caches : ℕ) (line : ℕ × Op) : Type 0 where
+  pub below : line.0 < caches
+  pub op : IsOp line.1
+
 -- the configuration is in the profile, and there are at most 10,000 operations, each of one of its caches
 pub record IsTrace (t : Parts) : Type 0 where
   pub profile : InProfile t.config
   pub few : length t.lines ≤ 10000
-  pub below : All (λ line. line.0 < t.config.caches) t.lines
+  pub each : All (λ line. IsLine t.config.caches line) t.lines

@@ -15,9 +15,20 @@
 #![tactic(auto)]
 
 mod fault;
+mod draws;
+mod line;
 mod read;
-mod trace;
 
-pub use fault::TraceFault;
+mod trace;
+mod words;
+mod write;
+
+pub use fault::{Kind, TraceFault};
+
+pub use draws::generate;
 pub use read::read_trace;
 pub use trace::{OPERATION_LIMIT, Trace};
+pub use write::write_trace;
+
+#[cfg(test)]
+mod tests;

@@ -1,7 +1,7 @@
 ghost use Rattle.std.specs.Prelude.{◌≡◌, ◌<◌, ◌≤◌, length, map, IfOk};
 ghost use Rattle.std.specs.List.{All};
 ghost use Rattle.bk_base.specs.Places.{InProfile};
-ghost use Rattle.bk_trace.specs.Traces.{Parts, operations_of, index_of, IsTrace};
+ghost use Rattle.bk_trace.specs.Traces.{Parts, operations_of, index_of, IsLine, IsTrace};
 
 use bk_base::{Config, Op};
 use std::alloc::{AllocError, Global};
@@ -87,6 +87,7 @@ impl Trace {
         ensures value { result.now ≡ self.now.lines }
         ensures few { length result.now ≤ 10000 }
         ensures below { All (λ line. line.0 < self.now.config.caches) result.now }
+        ensures each { All (λ line. IsLine self.now.config.caches line) result.now }
     {
         &self.lines
     }

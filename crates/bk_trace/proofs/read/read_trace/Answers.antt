@@ -1,0 +1,8 @@
+use Rattle.bk_trace.proofs.Whole.{is_found, is_only}
+use Rattle.bk_trace.proofs.read.read_trace.Goals as goal
+
+pub returns-clause-found : goal.returns-clause-found
+returns-clause-found c = is_found c.args.text.now c.read.result c.read.ensures
+
+pub returns-clause-only : goal.returns-clause-only
+returns-clause-only c = λ p e. is_only c.args.text.now c.read.result p c.read.ensures e
