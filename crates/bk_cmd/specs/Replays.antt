@@ -1,5 +1,5 @@
 -- How a replay ends, once its files are read.
-use Rattle.std.specs.Prelude.{ℕ, ◌⊎◌, List, length, Bool, true, false, Option, Some, Ok}
+use Rattle.std.specs.Prelude.{ℕ, ◌⊎◌, List, ◌++◌, length, Bool, true, false, Option, Some, Ok}
 use Rattle.bk_image.specs.Images as images
 use Rattle.bk_trace.specs.Traces as traces
 use Rattle.bk_system.specs.declared.event.Event.{Event}
@@ -9,6 +9,9 @@ use Rattle.bk_system.specs.Report.{IsReport}
 use Rattle.bk_system.specs.declared.runs.SerialFault.{SerialFault}
 use Rattle.bk_system.specs.declared.runs.SerialFault.TheVariants.{Spent, Memory}
 use Rattle.bk_cmd.specs.declared.outcome.Outcome.{Outcome}
+use Rattle.bk_log.specs.Log.{log_of}
+use Rattle.bk_cmd.specs.declared.words.Output.{Output}
+use Rattle.bk_cmd.specs.declared.words.Output.TheVariants.{Report, LogAndReport}
 use Rattle.bk_cmd.specs.Inputs.{Files, ImageIs, TraceIs}
 use Rattle.bk_cmd.specs.Writes.{Wrote, WrotePart}
 
@@ -44,16 +47,21 @@ IsRunFault image trace Memory = Unit {0}
 abbrev pub AreEvents : images.Parts → traces.Parts → List Event → Type 0
 AreEvents image trace events = RunEnds image trace events true ⊎ EndsShort image trace events
 
--- The run is complete, and all of its report was taken.
-pub record Reported (image : images.Parts) (trace : traces.Parts) (o : Outcome) (before after : Option (List ℕ)) : Type 0 where
-  pub ended : RunEnds image trace o.events.items true
-  pub report : List ℕ
-  pub is_report : IsReport trace.config image.instrs trace.lines o.events.items report
-  pub wrote : Wrote report o before after
+-- what is due of a complete run: its report, or its log and then its report
+abbrev pub IsDue : Output → images.Parts → traces.Parts → List Event → List ℕ → Type 0
+IsDue Report image trace events text = IsReport trace.config image.instrs trace.lines events text
+IsDue LogAndReport image trace events text = (report : List ℕ) × IsReport trace.config image.instrs trace.lines events report × (text ≡ log_of trace.config image.instrs events ++ report)
 
--- The run is complete, and not all of its report was taken.
-pub record ReportedPart (image : images.Parts) (trace : traces.Parts) (o : Outcome) (before after : Option (List ℕ)) : Type 0 where
+-- The run is complete, and all that is due of it was taken.
+pub record Reported (output : Output) (image : images.Parts) (trace : traces.Parts) (o : Outcome) (before after : Option (List ℕ)) : Type 0 where
   pub ended : RunEnds image trace o.events.items true
-  pub report : List ℕ
-  pub is_report : IsReport trace.config image.instrs trace.lines o.events.items report
-  pub wrote : WrotePart report o before after
+  pub text : List ℕ
+  pub is_due : IsDue output image trace o.events.items text
+  pub wrote : Wrote text o before after
+
+-- The run is complete, and not all that is due of it was taken.
+pub record ReportedPart (output : Output) (image : images.Parts) (trace : traces.Parts) (o : Outcome) (before after : Option (List ℕ)) : Type 0 where
+  pub ended : RunEnds image trace o.events.items true
+  pub text : List ℕ
+  pub is_due : IsDue output image trace o.events.items text
+  pub wrote : WrotePart text o before after

@@ -75,12 +75,12 @@ IsTraceStop files name failed missed _ = ⊥
 -- this file is the command's, and its turn comes: a trace is read after an image that is fit to run
 abbrev pub Reaches : Files → Command → ℕ → Type 0
 Reaches files (Verify image) file = file ≡ 1
-Reaches files (Replay image trace) file = (file ≡ 1) ⊎ ((file ≡ 2) × AfterImage files image (Unit {0}))
+Reaches files (Replay output image trace) file = (file ≡ 1) ⊎ ((file ≡ 2) × AfterImage files image (Unit {0}))
 
 -- of the bytes of the command's one file it says so
 abbrev pub Says : Files → Command → Answer → Type 0
 Says files (Verify image) answer = FileHolds files image (λ bytes. VerifySays bytes answer)
-Says files (Replay image trace) answer = ⊥
+Says files (Replay output image trace) answer = ⊥
 
 -- the first fault of the image; or that of the trace, after an image that is fit to run
 abbrev pub IsBadInput : Files → List ℕ → List ℕ → ℕ → ℕ → ℕ → ℕ → Type 0
@@ -91,7 +91,7 @@ IsBadInput files image trace file at column kind =
 -- the file of this number has this fault
 abbrev pub IsBad : Files → Command → ℕ → ℕ → ℕ → ℕ → Type 0
 IsBad files (Verify image) file at column kind = (file ≡ 1) × Says files (Verify image) (Fault at column kind)
-IsBad files (Replay image trace) file at column kind = IsBadInput files image trace file at column kind
+IsBad files (Replay output image trace) file at column kind = IsBadInput files image trace file at column kind
 
 -- the file of this number gave no bytes
 abbrev pub IsMissing : Files → Command → ℕ → Type 0 → Type 0 → unread.Unread → Type 0

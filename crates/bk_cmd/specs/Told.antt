@@ -5,4 +5,4 @@ use Rattle.bk_cmd.specs.Words.{Command, Verify, Replay}
 
 abbrev pub told : code.Command → Command
 told (variants.Verify image) = Verify image.now
-told (variants.Replay image trace) = Replay image.now trace.now
+told (variants.Replay output image trace) = Replay output image.now trace.now

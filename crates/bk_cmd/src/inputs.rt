@@ -6,6 +6,7 @@ ghost use Rattle.bk_image.specs.Reading.{image_at};
 ghost use Rattle.bk_cmd.specs.Inputs.{runnable_image, runnable_trace, ImageIs, TraceIs};
 ghost use Rattle.bk_cmd.specs.Stops.{GivesImage, GivesTrace, IsReadStop, IsImageStop, IsTraceStop, IsStop};
 ghost use Rattle.bk_cmd.specs.Words.{Replay};
+ghost use Rattle.bk_cmd.specs.declared.words.Output.{Output};
 
 use crate::outcome::{Stop, Unread};
 use crate::unbuilt::{are_replayed, first_unbuilt};
@@ -171,7 +172,7 @@ pub(crate) fn inputs_of<H: Shelf>(
 ) -> Result<Inputs, Stop>
     ensures image { IfOk result (λ i. ImageIs (H.files shelf.old) image_name.now (Ok i.image)) }
     ensures trace { IfOk result (λ i. TraceIs (H.files shelf.old) trace_name.now (Ok i.trace)) }
-    ensures stop { IfErr result (IsStop (H.files shelf.old) (Replay image_name.now trace_name.now)
+    ensures stop { (output : Output) → IfErr result (IsStop (H.files shelf.old) (Replay output image_name.now trace_name.now)
         (Rose (H.faults shelf.old) (H.faults shelf.new)) (Rose (H.misses shelf.old) (H.misses shelf.new))) }
     ensures same_files { H.files shelf.new ≡ H.files shelf.old }
     ensures faults_kept { H.faults shelf.old ≤ H.faults shelf.new }

@@ -1,32 +1,61 @@
 //! The replay of an image over a trace.
 
-ghost use Rattle.std.specs.Prelude.{◌≡◌, ◌≤◌, ◌<◌, ◌⊎◌, [], true, false, IfOk, IfErr, IsTrue};
+ghost use Rattle.std.specs.Prelude.{◌≡◌, ◌≤◌, ◌<◌, ◌⊎◌, ◌++◌, [], true, false, IfOk, IfErr, IsTrue};
 ghost use Rattle.bk_outer.specs.Counts.{Rose};
 ghost use Rattle.bk_cmd.specs.Outcomes.{LeavesRest, is_after_run, is_after_write};
-ghost use Rattle.bk_cmd.specs.Replays.{RunEnds, EndsShort, AreEvents, IsRunFault, Reported, ReportedPart};
+ghost use Rattle.bk_cmd.specs.Replays.{RunEnds, EndsShort, AreEvents, IsRunFault, IsDue, Reported, ReportedPart};
 
 use crate::inputs::Inputs;
 use crate::outcome::{MEMORY, OK, Outcome, SPENT, Stop, WRITE_FAULT, ended, stopped};
+use crate::words::Output;
 use crate::writing::deliver;
+use bk_log::log;
 use bk_outer::Sink;
 use bk_system::{Event, RunEnd, SerialFault, budget, report, serial};
-use std::alloc::Global;
+use std::alloc::{AllocError, Global};
 
-/// Writes the report of a complete run.
-fn write_report<K: Sink>(
+/// The texts of a complete run.
+#[derive(Drop)]
+struct Texts {
+    /// The log, or nothing where it isn't asked for.
+    log: Vec<u8>,
+    report: Vec<u8>,
+}
+
+/// What is due of the run of these events.
+fn texts_of(
     alloc: Global,
+    output: Output,
+    inputs: &Inputs,
+    events: &[Event],
+) -> Result<Texts, AllocError>
+    ensures { IfOk result (λ t. IsDue output inputs.now.image inputs.now.trace events.now (t.log.items ++ t.report.items)) }
+{
+    let Inputs { image, trace } = inputs;
+    let log = match output {
+        Output::Report => Vec::new(alloc),
+        Output::LogAndReport => log(alloc, image, trace, events)?,
+    };
+    let report = report(alloc, image, trace, events)?;
+    Ok(Texts { log, report })
+}
+
+/// Writes what is due of a complete run.
+fn write_texts<K: Sink>(
+    alloc: Global,
+    output: Output,
     inputs: &Inputs,
     events: Vec<Event>,
     sink: &mut K,
 ) -> Outcome
     requires { RunEnds inputs.now.image inputs.now.trace events.items true }
     ensures ok { result.status ≡ OK →
-        Reported inputs.now.image inputs.now.trace result (K.taken sink.old) (K.taken sink.new) }
+        Reported output inputs.now.image inputs.now.trace result (K.taken sink.old) (K.taken sink.new) }
     ensures write_fault { result.status ≡ WRITE_FAULT →
-        ReportedPart inputs.now.image inputs.now.trace result (K.taken sink.old) (K.taken sink.new) }
+        ReportedPart output inputs.now.image inputs.now.trace result (K.taken sink.old) (K.taken sink.new) }
     ensures counted { result.status ≡ WRITE_FAULT → Rose (K.faults sink.old) (K.faults sink.new) }
     ensures memory_part { result.status ≡ MEMORY → 0 < result.written →
-        ReportedPart inputs.now.image inputs.now.trace result (K.taken sink.old) (K.taken sink.new) }
+        ReportedPart output inputs.now.image inputs.now.trace result (K.taken sink.old) (K.taken sink.new) }
     ensures memory_none { result.status ≡ MEMORY → result.written ≡ 0 →
         K.taken sink.new ≡ K.taken sink.old }
     ensures status { IsTrue (is_after_write result.status) }
@@ -34,8 +63,8 @@ fn write_report<K: Sink>(
     ensures rest { LeavesRest result }
     ensures faults_kept { K.faults sink.old ≤ K.faults sink.new }
 {
-    match report(alloc, &inputs.image, &inputs.trace, &events) {
-        Ok(text) => deliver(sink, &text, events),
+    match texts_of(alloc, output, inputs, &events) {
+        Ok(texts) => deliver(sink, &texts.log, &texts.report, events),
         Err(_) => ended(MEMORY, events, 0),
     }
 }
@@ -52,15 +81,20 @@ fn run(alloc: Global, inputs: &Inputs) -> Result<RunEnd, SerialFault>
     serial(alloc, &inputs.image, &inputs.trace, events_limit)
 }
 
-/// Runs the greedy schedule, and writes the report of a complete run.
-pub(crate) fn replay<K: Sink>(alloc: Global, inputs: &Inputs, sink: &mut K) -> Outcome
+/// Runs the greedy schedule, and writes what is due of a complete run.
+pub(crate) fn replay<K: Sink>(
+    alloc: Global,
+    output: Output,
+    inputs: &Inputs,
+    sink: &mut K,
+) -> Outcome
     ensures ok { result.status ≡ OK →
-        Reported inputs.now.image inputs.now.trace result (K.taken sink.old) (K.taken sink.new) }
+        Reported output inputs.now.image inputs.now.trace result (K.taken sink.old) (K.taken sink.new) }
     ensures write_fault { result.status ≡ WRITE_FAULT →
-        ReportedPart inputs.now.image inputs.now.trace result (K.taken sink.old) (K.taken sink.new) }
+        ReportedPart output inputs.now.image inputs.now.trace result (K.taken sink.old) (K.taken sink.new) }
     ensures counted { result.status ≡ WRITE_FAULT → Rose (K.faults sink.old) (K.faults sink.new) }
     ensures memory_part { result.status ≡ MEMORY → 0 < result.written →
-        ReportedPart inputs.now.image inputs.now.trace result (K.taken sink.old) (K.taken sink.new) }
+        ReportedPart output inputs.now.image inputs.now.trace result (K.taken sink.old) (K.taken sink.new) }
     ensures memory_none { result.status ≡ MEMORY → result.written ≡ 0 →
         K.taken sink.new ≡ K.taken sink.old }
     ensures spent { result.status ≡ SPENT →
@@ -75,7 +109,7 @@ pub(crate) fn replay<K: Sink>(alloc: Global, inputs: &Inputs, sink: &mut K) -> O
     match run(alloc, inputs) {
         Ok(end) => {
             if end.complete {
-                write_report(alloc, inputs, end.events, sink)
+                write_texts(alloc, output, inputs, end.events, sink)
             } else {
                 ended(SPENT, end.events, 0)
             }

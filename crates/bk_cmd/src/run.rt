@@ -23,7 +23,8 @@ use std::alloc::Global;
 /// Does what the words ask for, with the files of the shelf, and writes to the sink what is due:
 ///
 /// - `verify IMAGE`: `accepted` and a line's end, where the image is accepted (`docs/OBLIGATIONS.md`);
-/// - `replay serial IMAGE TRACE`: the report of the greedy run of the image over the trace.
+/// - `replay serial IMAGE TRACE`: the report of the greedy run of the image over the trace;
+/// - `replay log IMAGE TRACE`: the log of that run, and then its report.
 ///
 /// The words are judged first. Then each file is read and checked, in their order; `verify` gives its
 /// verdict, and a replay makes its run; then comes the writing. What is met first is answered, by a status:
@@ -36,7 +37,7 @@ use std::alloc::Global;
 /// - `ABSENT`: there is no such file;
 /// - `READ_FAULT`: a file could not be read;
 /// - `WRITE_FAULT`: the sink failed, and took `written` bytes of what is due;
-/// - `TOO_LONG`: a file has too many bytes, or an image too many instructions;
+/// - `TOO_LONG`: a file has too many bytes, an image too many instructions, or a trace too many operations;
 /// - `SPENT`: the run ended and is not complete.
 pub fn run_plain<H: Shelf, K: Sink>(
     alloc: Global,
@@ -101,11 +102,15 @@ pub fn run_plain<H: Shelf, K: Sink>(
     };
     match command {
         Command::Verify { image } => match verify(alloc, shelf, image) {
-            Ok(text) => deliver(sink, &text, Vec::new(alloc)),
+            Ok(text) => deliver(sink, &text, &[], Vec::new(alloc)),
             Err(stop) => stopped(alloc, stop),
         },
-        Command::Replay { image, trace } => match inputs_of(alloc, shelf, image, trace) {
-            Ok(inputs) => replay(alloc, &inputs, sink),
+        Command::Replay {
+            output,
+            image,
+            trace,
+        } => match inputs_of(alloc, shelf, image, trace) {
+            Ok(inputs) => replay(alloc, output, &inputs, sink),
             Err(stop) => stopped(alloc, stop),
         },
     }

@@ -12,6 +12,7 @@ use crate::fault::MsgFault;
 use crate::fields::{Fields, Payload, fields_of, row_of};
 use crate::kind::Kind;
 use crate::message::Message;
+use crate::row::Row;
 use crate::table::{Load, Rule, layout_of};
 use arrayvec::ArrayVec;
 use bk_base::Addr;

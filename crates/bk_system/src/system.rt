@@ -420,8 +420,9 @@ impl System {
         cache_count(self.config)
     }
 
-    /// One event, what it sent, and the state that it leaves.
-    pub(crate) fn happen(&mut self, program: &[Instr], event: &Event) -> Result<Stepped, AllocError>
+    /// One event: what it sent, and the state that it leaves. One that isn't enabled changes nothing, and
+    /// neither does want of memory.
+    pub fn happen(&mut self, program: &[Instr], event: &Event) -> Result<Stepped, AllocError>
         requires { length program.now ≤ 256 }
         ensures ok { IfOk result (λ stepped. row self.old.config program.now (state_of self.old) event.now ≡ row_from stepped (state_of self.new)) }
         ensures state { OnOk result (state_of self.new ≡ after self.old.config program.now (state_of self.old) event.now) }

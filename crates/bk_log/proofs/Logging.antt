@@ -1,0 +1,29 @@
+-- A log that is made one event at a time.
+use Rattle.std.proofs.Common.{◌≡◌, ℕ, suc, ◌+◌, ◌<◌, List, [], ◌∷◌, ◌++◌, Option, ap, sym, ◌∙◌, length, get_or, drop, drop-cons, add-one, append_assoc}
+use Rattle.bk_base.specs.Places.{Shape}
+use Rattle.bk_isa.specs.declared.form.Form.{Form}
+use Rattle.bk_system.specs.declared.event.Event.{Event}
+use Rattle.bk_system.specs.declared.event.Stepped.{Stepped}
+use Rattle.bk_system.specs.State.{State}
+use Rattle.bk_system.specs.Events.{Happening, row}
+use Rattle.bk_system.specs.Runs.{after}
+use Rattle.bk_system.specs.Systems.{row_from}
+use Rattle.bk_log.specs.Log.{row_text, log_from}
+
+-- a list from a place on is its element there, and the list from the next place on
+drop-here : (events : List Event) (i : ℕ) (event : Event) → i < length events → event ≡ get_or events i event → drop i events ≡ event ∷ drop (i + 1) events
+drop-here events i event l e = rw (add-one) (drop-cons events i event l ∙ ap (λ (x : Event). x ∷ drop (suc i) events) (sym e))
+
+module _ (k q : Shape) (program : List Form) (events : List Event) (i : ℕ) (event : Event) (s t : State) (stepped : Stepped) where
+  -- what was logged before the event and what is logged from it on, and the same for the next one
+  pub log-next : (out next total : List ℕ) → i < length events → event ≡ get_or events i event → q ≡ k → t ≡ after q program s event → row q program s event ≡ row_from stepped t
+      → next ≡ out ++ row_text event (row_from stepped t) → out ++ log_from k program s (drop i events) ≡ total → next ++ log_from k program t (drop (i + 1) events) ≡ total
+  log-next out next total l e c h r logged so_far =
+      let rest = drop (i + 1) events in
+      let state : t ≡ after k program s event = h ∙ ap (λ (z : Shape). after z program s event) c in
+      let text : row_text event (row_from stepped t) ≡ row_text event (row k program s event) = ap (row_text event) (sym r) ∙ ap (λ (z : Shape). row_text event (row z program s event)) c in
+      let here : log_from k program s (drop i events) ≡ row_text event (row k program s event) ++ log_from k program (after k program s event) rest = ap (log_from k program s) (drop-here events i event l e) in
+      ap (λ (x : List ℕ). x ++ log_from k program t rest) (logged ∙ ap (λ (x : List ℕ). out ++ x) text)
+      ∙ append_assoc out (row_text event (row k program s event)) (log_from k program t rest)
+      ∙ ap (λ (x : State). out ++ (row_text event (row k program s event) ++ log_from k program x rest)) state
+      ∙ ap (λ (x : List ℕ). out ++ x) (sym here) ∙ so_far

@@ -1,0 +1,16 @@
+use Rattle.std.proofs.Common.{string_bytes, ◌∙◌}
+use Rattle.bk_system.specs.Systems.{state_of}
+use Rattle.bk_log.specs.Log.{log_of}
+use Rattle.bk_log.proofs.Logging.{log-next}
+use Rattle.bk_log.proofs.logs.log.Goals as goal
+
+pub loop-event-preserved : goal.loop-event-preserved
+loop-event-preserved c =
+    let k = c.args.trace.now.config in
+    let p = c.instrs-program.result.now in
+    record {
+      config = c.in-Ok.ensures.config ∙ c.loop-event.invariant.config;
+      text = log-next k c.loop-event.system.config p c.args.events.now c.loop-event.event-index c.event-item.result (state_of c.loop-event.system) (state_of c.happen.new.self) c.in-Ok.stepped
+          (string_bytes c.loop-event.out) (string_bytes c.push_stepped.new.out) (log_of k p c.args.events.now)
+          c.loop-event-test.true c.event-item.is c.loop-event.invariant.config c.in-Ok.ensures.state c.in-Ok.ensures.ok (c.in_ok-push_stepped.ensures (state_of c.happen.new.self)) c.loop-event.invariant.text;
+    }
