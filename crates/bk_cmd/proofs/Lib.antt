@@ -1,3 +1,4 @@
 pub mod Ends
 pub mod Decimals
 mod Statuses
+mod Parts

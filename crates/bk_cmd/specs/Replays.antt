@@ -1,5 +1,5 @@
 -- How a replay ends, once its files are read.
-use Rattle.std.specs.Prelude.{ℕ, ◌⊎◌, List, ◌++◌, length, Bool, true, false, Option, Some, Ok}
+use Rattle.std.specs.Prelude.{◌≡◌, ℕ, ◌⊎◌, List, [], ◌++◌, length, Bool, true, false, Option, Some, Ok}
 use Rattle.bk_image.specs.Images as images
 use Rattle.bk_trace.specs.Traces as traces
 use Rattle.bk_system.specs.declared.event.Event.{Event}
@@ -47,10 +47,16 @@ IsRunFault image trace Memory = Unit {0}
 abbrev pub AreEvents : images.Parts → traces.Parts → List Event → Type 0
 AreEvents image trace events = RunEnds image trace events true ⊎ EndsShort image trace events
 
--- what is due of a complete run: its report, or its log and then its report
-abbrev pub IsDue : Output → images.Parts → traces.Parts → List Event → List ℕ → Type 0
-IsDue Report image trace events text = IsReport trace.config image.instrs trace.lines events text
-IsDue LogAndReport image trace events text = (report : List ℕ) × IsReport trace.config image.instrs trace.lines events report × (text ≡ log_of trace.config image.instrs events ++ report)
+-- the log of a run, where it is asked for
+abbrev pub log_due : Output → images.Parts → traces.Parts → List Event → List ℕ
+log_due Report image trace events = []
+log_due LogAndReport image trace events = log_of trace.config image.instrs events
+
+-- what is due of a run: the log, where it is asked for, and then the report
+pub record IsDue (output : Output) (image : images.Parts) (trace : traces.Parts) (events : List Event) (text : List ℕ) : Type 0 where
+  pub report : List ℕ
+  pub is_report : IsReport trace.config image.instrs trace.lines events report
+  pub whole : text ≡ log_due output image trace events ++ report
 
 -- The run is complete, and all that is due of it was taken.
 pub record Reported (output : Output) (image : images.Parts) (trace : traces.Parts) (o : Outcome) (before after : Option (List ℕ)) : Type 0 where

@@ -6,10 +6,10 @@ ghost use Rattle.bk_image.specs.Reading.{image_at};
 ghost use Rattle.bk_cmd.specs.Inputs.{runnable_image, runnable_trace, ImageIs, TraceIs};
 ghost use Rattle.bk_cmd.specs.Stops.{GivesImage, GivesTrace, IsReadStop, IsImageStop, IsTraceStop, IsStop};
 ghost use Rattle.bk_cmd.specs.Words.{Replay};
-ghost use Rattle.bk_cmd.specs.declared.words.Output.{Output};
 
 use crate::outcome::{Stop, Unread};
 use crate::unbuilt::{are_replayed, first_unbuilt};
+use crate::words::Output;
 use bk_image::{Image, ImageFault, read_image};
 use bk_outer::{ReadAnswer, Shelf};
 use bk_trace::{Trace, TraceFault, read_trace};
@@ -27,9 +27,10 @@ const WORD_BYTES: u64 = 8;
 /// The kind of a fault that is none of the grammar's: what isn't built yet.
 const UNBUILT: u8 = 0;
 
-/// What a replay runs.
+/// What a replay runs, and what it writes.
 #[derive(Drop)]
 pub(crate) struct Inputs {
+    pub output: Output,
     pub image: Image,
     pub trace: Trace,
 }
@@ -167,12 +168,14 @@ fn trace_of<H: Shelf>(alloc: Global, shelf: &mut H, name: &str) -> Result<Trace,
 pub(crate) fn inputs_of<H: Shelf>(
     alloc: Global,
     shelf: &mut H,
+    output: Output,
     image_name: &str,
     trace_name: &str,
 ) -> Result<Inputs, Stop>
+    ensures output { IfOk result (λ i. i.output ≡ output) }
     ensures image { IfOk result (λ i. ImageIs (H.files shelf.old) image_name.now (Ok i.image)) }
     ensures trace { IfOk result (λ i. TraceIs (H.files shelf.old) trace_name.now (Ok i.trace)) }
-    ensures stop { (output : Output) → IfErr result (IsStop (H.files shelf.old) (Replay output image_name.now trace_name.now)
+    ensures stop { IfErr result (IsStop (H.files shelf.old) (Replay output image_name.now trace_name.now)
         (Rose (H.faults shelf.old) (H.faults shelf.new)) (Rose (H.misses shelf.old) (H.misses shelf.new))) }
     ensures same_files { H.files shelf.new ≡ H.files shelf.old }
     ensures faults_kept { H.faults shelf.old ≤ H.faults shelf.new }
@@ -183,7 +186,11 @@ pub(crate) fn inputs_of<H: Shelf>(
         Err(stop) => return Err(stop),
     };
     match trace_of(alloc, shelf, trace_name) {
-        Ok(trace) => Ok(Inputs { image, trace }),
+        Ok(trace) => Ok(Inputs {
+            output,
+            image,
+            trace,
+        }),
         Err(stop) => Err(stop),
     }
 }

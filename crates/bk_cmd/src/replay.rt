@@ -3,7 +3,7 @@
 ghost use Rattle.std.specs.Prelude.{◌≡◌, ◌≤◌, ◌<◌, ◌⊎◌, ◌++◌, [], true, false, IfOk, IfErr, IsTrue};
 ghost use Rattle.bk_outer.specs.Counts.{Rose};
 ghost use Rattle.bk_cmd.specs.Outcomes.{LeavesRest, is_after_run, is_after_write};
-ghost use Rattle.bk_cmd.specs.Replays.{RunEnds, EndsShort, AreEvents, IsRunFault, IsDue, Reported, ReportedPart};
+ghost use Rattle.bk_cmd.specs.Replays.{RunEnds, EndsShort, AreEvents, IsRunFault, IsDue, log_due, Reported, ReportedPart};
 
 use crate::inputs::Inputs;
 use crate::outcome::{MEMORY, OK, Outcome, SPENT, Stop, WRITE_FAULT, ended, stopped};
@@ -22,40 +22,35 @@ struct Texts {
     report: Vec<u8>,
 }
 
-/// What is due of the run of these events.
-fn texts_of(
-    alloc: Global,
-    output: Output,
-    inputs: &Inputs,
-    events: &[Event],
-) -> Result<Texts, AllocError>
-    ensures { IfOk result (λ t. IsDue output inputs.now.image inputs.now.trace events.now (t.log.items ++ t.report.items)) }
+/// The log of the run of these events, or nothing where it isn't asked for.
+fn log_due(alloc: Global, inputs: &Inputs, events: &[Event]) -> Result<Vec<u8>, AllocError>
+    ensures { IfOk result (λ v. v.items ≡ log_due inputs.now.output inputs.now.image inputs.now.trace events.now) }
 {
-    let Inputs { image, trace } = inputs;
-    let log = match output {
-        Output::Report => Vec::new(alloc),
-        Output::LogAndReport => log(alloc, image, trace, events)?,
-    };
-    let report = report(alloc, image, trace, events)?;
+    match inputs.output {
+        Output::Report => Ok(Vec::new(alloc)),
+        Output::LogAndReport => log(alloc, &inputs.image, &inputs.trace, events),
+    }
+}
+
+/// What is due of the run of these events.
+fn texts_of(alloc: Global, inputs: &Inputs, events: &[Event]) -> Result<Texts, AllocError>
+    ensures { IfOk result (λ t. IsDue inputs.now.output inputs.now.image inputs.now.trace events.now (t.log.items ++ t.report.items)) }
+{
+    let log = log_due(alloc, inputs, events)?;
+    let report = report(alloc, &inputs.image, &inputs.trace, events)?;
     Ok(Texts { log, report })
 }
 
 /// Writes what is due of a complete run.
-fn write_texts<K: Sink>(
-    alloc: Global,
-    output: Output,
-    inputs: &Inputs,
-    events: Vec<Event>,
-    sink: &mut K,
-) -> Outcome
+fn write_texts<K: Sink>(alloc: Global, inputs: &Inputs, events: Vec<Event>, sink: &mut K) -> Outcome
     requires { RunEnds inputs.now.image inputs.now.trace events.items true }
     ensures ok { result.status ≡ OK →
-        Reported output inputs.now.image inputs.now.trace result (K.taken sink.old) (K.taken sink.new) }
+        Reported inputs.now.output inputs.now.image inputs.now.trace result (K.taken sink.old) (K.taken sink.new) }
     ensures write_fault { result.status ≡ WRITE_FAULT →
-        ReportedPart output inputs.now.image inputs.now.trace result (K.taken sink.old) (K.taken sink.new) }
+        ReportedPart inputs.now.output inputs.now.image inputs.now.trace result (K.taken sink.old) (K.taken sink.new) }
     ensures counted { result.status ≡ WRITE_FAULT → Rose (K.faults sink.old) (K.faults sink.new) }
     ensures memory_part { result.status ≡ MEMORY → 0 < result.written →
-        ReportedPart output inputs.now.image inputs.now.trace result (K.taken sink.old) (K.taken sink.new) }
+        ReportedPart inputs.now.output inputs.now.image inputs.now.trace result (K.taken sink.old) (K.taken sink.new) }
     ensures memory_none { result.status ≡ MEMORY → result.written ≡ 0 →
         K.taken sink.new ≡ K.taken sink.old }
     ensures status { IsTrue (is_after_write result.status) }
@@ -63,7 +58,7 @@ fn write_texts<K: Sink>(
     ensures rest { LeavesRest result }
     ensures faults_kept { K.faults sink.old ≤ K.faults sink.new }
 {
-    match texts_of(alloc, output, inputs, &events) {
+    match texts_of(alloc, inputs, &events) {
         Ok(texts) => deliver(sink, &texts.log, &texts.report, events),
         Err(_) => ended(MEMORY, events, 0),
     }
@@ -82,19 +77,14 @@ fn run(alloc: Global, inputs: &Inputs) -> Result<RunEnd, SerialFault>
 }
 
 /// Runs the greedy schedule, and writes what is due of a complete run.
-pub(crate) fn replay<K: Sink>(
-    alloc: Global,
-    output: Output,
-    inputs: &Inputs,
-    sink: &mut K,
-) -> Outcome
+pub(crate) fn replay<K: Sink>(alloc: Global, inputs: &Inputs, sink: &mut K) -> Outcome
     ensures ok { result.status ≡ OK →
-        Reported output inputs.now.image inputs.now.trace result (K.taken sink.old) (K.taken sink.new) }
+        Reported inputs.now.output inputs.now.image inputs.now.trace result (K.taken sink.old) (K.taken sink.new) }
     ensures write_fault { result.status ≡ WRITE_FAULT →
-        ReportedPart output inputs.now.image inputs.now.trace result (K.taken sink.old) (K.taken sink.new) }
+        ReportedPart inputs.now.output inputs.now.image inputs.now.trace result (K.taken sink.old) (K.taken sink.new) }
     ensures counted { result.status ≡ WRITE_FAULT → Rose (K.faults sink.old) (K.faults sink.new) }
     ensures memory_part { result.status ≡ MEMORY → 0 < result.written →
-        ReportedPart output inputs.now.image inputs.now.trace result (K.taken sink.old) (K.taken sink.new) }
+        ReportedPart inputs.now.output inputs.now.image inputs.now.trace result (K.taken sink.old) (K.taken sink.new) }
     ensures memory_none { result.status ≡ MEMORY → result.written ≡ 0 →
         K.taken sink.new ≡ K.taken sink.old }
     ensures spent { result.status ≡ SPENT →
@@ -109,7 +99,7 @@ pub(crate) fn replay<K: Sink>(
     match run(alloc, inputs) {
         Ok(end) => {
             if end.complete {
-                write_texts(alloc, output, inputs, end.events, sink)
+                write_texts(alloc, inputs, end.events, sink)
             } else {
                 ended(SPENT, end.events, 0)
             }

@@ -109,8 +109,8 @@ pub fn run_plain<H: Shelf, K: Sink>(
             output,
             image,
             trace,
-        } => match inputs_of(alloc, shelf, image, trace) {
-            Ok(inputs) => replay(alloc, output, &inputs, sink),
+        } => match inputs_of(alloc, shelf, output, image, trace) {
+            Ok(inputs) => replay(alloc, &inputs, sink),
             Err(stop) => stopped(alloc, stop),
         },
     }

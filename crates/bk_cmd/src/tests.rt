@@ -22,19 +22,32 @@ messages request 2 command 2 fill 0 response 2 memout 2 memin 1
 end rested
 ";
 
+/// How the log of the two operations begins.
+const TWO_OPERATIONS_LOG: &str = "\
+I 0 US 0x40 7 0
+m 0400f0000000000040000000000000000700000000000000
+I 1 UL 0x40 0
+m 0301f000000000004000000000000000
+";
+
 const EMPTY_REPORT: &str = "\
 events issue 0 command 0 fill 0 memory 0 engine 0
 messages request 0 command 0 fill 0 response 0 memout 0 memin 0
 end rested
 ";
 
-/// The words `replay serial a.bk b.trace`.
-fn words(alloc: Global) -> Result<Vec<String>, Fail> {
+/// The words of a command line.
+fn words_of(alloc: Global, line: &[&str]) -> Result<Vec<String>, Fail> {
     let mut words = Vec::new(alloc);
-    for word in ["replay", "serial", "a.bk", "b.trace"] {
+    for word in line {
         words.push(String::from_str(alloc, word)?)?;
     }
     Ok(words)
+}
+
+/// The words `replay serial a.bk b.trace`.
+fn words(alloc: Global) -> Result<Vec<String>, Fail> {
+    words_of(alloc, &["replay", "serial", "a.bk", "b.trace"])
 }
 
 /// A shelf with the two files that the words name.
@@ -74,6 +87,58 @@ fn two_operations(rt: HostRuntime) -> Result<(), Fail> {
     assert_eq!(rt; outcome.events.len(), 37);
     assert!(rt; sink.bytes() == TWO_OPERATIONS_REPORT.as_bytes());
     assert!(rt; fault_line(&outcome).as_str() == "");
+    Ok(())
+}
+
+#[test]
+fn a_log(rt: HostRuntime) -> Result<(), Fail> {
+    let alloc = rt.alloc();
+    let mut shelf = shelf(alloc, &UNCACHED, TWO_OPERATIONS, Vec::new(alloc))?;
+    let mut sink = sink(alloc);
+    let words = words_of(alloc, &["replay", "log", "a.bk", "b.trace"])?;
+    let outcome = run_plain(alloc, &words, &mut shelf, &mut sink);
+    assert_eq!(rt; outcome.status, OK);
+    assert_eq!(rt; outcome.events.len(), 37);
+    assert_eq!(rt; outcome.written, sink.bytes().len() as u64);
+    assert!(rt; sink.bytes().starts_with(TWO_OPERATIONS_LOG.as_bytes()));
+    assert!(rt; sink.bytes().ends_with(TWO_OPERATIONS_REPORT.as_bytes()));
+    Ok(())
+}
+
+#[test]
+fn faults_of_a_trace(rt: HostRuntime) -> Result<(), Fail> {
+    let alloc = rt.alloc();
+    // A trace, and the line, the column and the kind of its fault.
+    let cases = [
+        ("config 1 64 8\n0 S 0x10000000000 1", 2, 5, 44),
+        ("config 9 4 2", 1, 8, 41),
+        ("config 2 4 2\n2 UL 0x40", 2, 1, 42),
+        ("config 2 4 2\n0 UL 0x40 7", 2, 11, 46),
+    ];
+    for (trace, line, column, kind) in cases {
+        let mut shelf = shelf(alloc, &UNCACHED, trace, Vec::new(alloc))?;
+        let mut sink = sink(alloc);
+        let outcome = run_plain(alloc, &words(alloc)?, &mut shelf, &mut sink);
+        assert_eq!(rt;
+            numbers(&outcome),
+            [MALFORMED as u64, 2, line, column, kind, 0]
+        );
+    }
+    Ok(())
+}
+
+#[test]
+fn too_many_operations(rt: HostRuntime) -> Result<(), Fail> {
+    let alloc = rt.alloc();
+    let mut trace = String::from_str(alloc, "config 1 1 1\n")?;
+    for _ in 0..10_001 {
+        trace.push_str("0 UL 0x0\n")?;
+    }
+    let mut shelf = shelf(alloc, &UNCACHED, &trace, Vec::new(alloc))?;
+    let mut sink = sink(alloc);
+    let outcome = run_plain(alloc, &words(alloc)?, &mut shelf, &mut sink);
+    assert_eq!(rt; numbers(&outcome), [TOO_LONG as u64, 2, 10_002, 1, 47, 0]);
+    assert!(rt; fault_line(&outcome).as_str() == "bedrock: too long file 2");
     Ok(())
 }
 
@@ -210,11 +275,7 @@ fn memory_is_told(rt: HostRuntime) {
 
 /// The words `verify a.bk`.
 fn verify_words(alloc: Global) -> Result<Vec<String>, Fail> {
-    let mut words = Vec::new(alloc);
-    for word in ["verify", "a.bk"] {
-        words.push(String::from_str(alloc, word)?)?;
-    }
-    Ok(words)
+    words_of(alloc, &["verify", "a.bk"])
 }
 
 /// The outcome of `verify` on these bytes, over a sink that takes them whole, and what the sink then has.
@@ -308,6 +369,12 @@ fn files_without_bytes(rt: HostRuntime) -> Result<(), Fail> {
     assert!(rt; fault_line(&outcome).as_str() == "bedrock: absent file 1");
     let outcome = run_plain(alloc, &words(alloc)?, &mut empty, &mut sink);
     assert_eq!(rt; numbers(&outcome), [ABSENT as u64, 1, 0, 0, 0, 0]);
+    let mut files = Vec::new(alloc);
+    files.push((String::from_str(alloc, "a.bk")?, UNCACHED.to_vec(alloc)?))?;
+    let mut no_trace = MemShelf::make(alloc, files, Vec::new(alloc));
+    let outcome = run_plain(alloc, &words(alloc)?, &mut no_trace, &mut sink);
+    assert_eq!(rt; numbers(&outcome), [ABSENT as u64, 2, 0, 0, 0, 0]);
+    assert!(rt; fault_line(&outcome).as_str() == "bedrock: absent file 2");
     let mut failing = shelf(alloc, &MESI, "", vec![in alloc; 1]?)?;
     let outcome = run_plain(alloc, &verify_words(alloc)?, &mut failing, &mut sink);
     assert_eq!(rt; numbers(&outcome), [READ_FAULT as u64, 1, 0, 0, 0, 0]);

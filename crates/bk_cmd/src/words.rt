@@ -24,7 +24,9 @@ pub(crate) enum Output {
 #[derive(Clone, Copy)]
 pub(crate) enum Command<'a> {
     /// `verify IMAGE`: the verdict on an image.
-    Verify { image: &'a str },
+    Verify {
+        image: &'a str,
+    },
     /// `replay serial IMAGE TRACE` and `replay log IMAGE TRACE`: the greedy run of an image over a trace.
     Replay {
         output: Output,
