@@ -1,5 +1,5 @@
 -- When each answer of reading comes.
-use Rattle.std.proofs.Common.{◌≡◌, ℕ, ◌+◌, ◌≤◌, List, [], ◌∷◌, ◌++◌, length, take, drop, Result, Ok, Err, sym, ap, subst, ◌∙◌, append_assoc, arith, inl, inr}
+use Rattle.std.proofs.Common.{refl, ◌≡◌, ℕ, ◌+◌, ◌≤◌, List, [], ◌∷◌, ◌++◌, length, take, drop, Result, Ok, Err, sym, ap, subst, ◌∙◌, append_assoc, arith, inl, inr}
 use Rattle.std.specs.Prelude.{IfOk, IfErr, IsErrAnd}
 use Rattle.std.proofs.lemmas.Bool.{cases_lt}
 use Rattle.std.proofs.lemmas.List.{append-nil, length-append, take-append-drop, take-take}
@@ -121,3 +121,12 @@ found bytes (Err fault) fits e = tt
 pub fault : (bytes : List ℕ) (o : Read) → IsBytes bytes → o ≡ decode bytes → IfErr o (λ f. IsFaultOf bytes f)
 fault bytes (Ok x) fits e = tt
 fault bytes (Err f) fits e = is_fault bytes f fits (sym e)
+
+pub append_cancel : (a x y : List ℕ) → a ++ x ≡ a ++ y → x ≡ y
+append_cancel [] x y e = e
+append_cancel (b ∷ a) x y e = append_cancel a x y (ap (drop 1) e)
+
+pub one_spelling : (a b : Row) (x y : List ℕ) → IsMessage a → IsMessage b → spelling a ++ x ≡ spelling b ++ y → (a ≡ b) × (x ≡ y)
+one_spelling a b x y ha hb e =
+    let same : a ≡ b = same_message (spelling a ++ x) a b (record { message = ha; rest = x; parts = refl }) (record { message = hb; rest = y; parts = e }) in
+    (same, append_cancel (spelling b) x y (subst (λ (r : Row). spelling r ++ x ≡ spelling b ++ y) same e))

@@ -1,5 +1,5 @@
 -- What feeds keep, and what they make of a stream in pieces.
-use Rattle.std.proofs.Common.{◌≡◌, ℕ, ◌+◌, ◌≤◌, List, [], ◌∷◌, ◌++◌, length, drop, Option, Some, None, Result, Ok, Err, refl, sym, ap, subst, ◌∙◌, append_assoc, arith}
+use Rattle.std.proofs.Common.{◌≡◌, ℕ, ◌+◌, ◌≤◌, List, [], ◌∷◌, ◌++◌, length, Option, Some, None, Result, Ok, Err, refl, sym, ap, subst, ◌∙◌, append_assoc, arith}
 use Rattle.std.specs.List.{AllByRecursion}
 use Rattle.std.proofs.lemmas.List.{append-nil, length-append}
 use Rattle.std.proofs.lemmas.List.Concat.{flat_map-cons}
@@ -11,6 +11,7 @@ use Rattle.bk_msg.specs.Spelling.{spelling, IsMessage}
 use Rattle.bk_msg.specs.Reading.{decode}
 use Rattle.bk_msg.specs.Faults.{IsShort}
 use Rattle.bk_msg.specs.Feeds.{spellings, Splits, Kept, IsPartial, IsKept, new_feed, stopped, Feeds, FeedsAll, IsFedBy, Reads, joined}
+use Rattle.bk_msg.proofs.Exactly.{append_cancel}
 use Rattle.bk_msg.proofs.Messages.{decode_again}
 use Rattle.bk_msg.proofs.Streams.{stays_bad}
 
@@ -36,10 +37,6 @@ fails x = Err x
 
 same_error : (x y : MsgFault) → fails x ≡ fails y → x ≡ y
 same_error x y e = cc
-
-append_cancel : (a x y : List ℕ) → a ++ x ≡ a ++ y → x ≡ y
-append_cancel [] x y e = e
-append_cancel (b ∷ a) x y e = append_cancel a x y (ap (drop 1) e)
 
 pub record Same (a b : List Row) (x y : List ℕ) (f g : MsgFault) : Type 0 where
   pub messages : a ≡ b

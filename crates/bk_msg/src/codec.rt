@@ -198,3 +198,8 @@ pub fn decode(bytes: &[u8]) -> Result<(Message, usize), MsgFault>
 {
     read(bytes)
 }
+
+/// No message's spelling begins another's, so a stream of spellings is of one list of messages.
+pub fn one_spelling()
+    ensures { (a b : Row) (x y : List ℕ) → IsMessage a → IsMessage b → spelling a ++ x ≡ spelling b ++ y → (a ≡ b) × (x ≡ y) }
+{}

@@ -11,7 +11,7 @@ mod message;
 mod row;
 mod table;
 
-pub use codec::{Packet, decode, encode, spell};
+pub use codec::{Packet, decode, encode, one_spelling, spell};
 pub use fault::MsgFault;
 pub use feed::{Feed, FeedEnd, FeedFault, any_pieces};
 pub use message::Message;

@@ -8,7 +8,7 @@ pub const ENGINE: u8 = 0xf0;
 /// The memory's number as a message's sender or receiver.
 pub const MEMORY: u8 = 0xf1;
 
-/// A message, by its kind and fields: one variant a kind (docs/MESSAGES.md has the table).
+/// The kind and the fields of a message: one variant a kind (docs/MESSAGES.md has the table). `Message` is one in range.
 /// `from` and `to` are the numbers of sender and receiver, `peer` is a cache, `way` and `peer_way` are ways;
 /// `addr` is the address of a word for the kinds that begin with `Uc` and for `WriteWord`, else that of a
 /// block's first word. That the fields are in range is no invariant of this type.
