@@ -1,6 +1,6 @@
 -- The words of a line are what its blanks separate, and which bytes they have.
-use Rattle.std.proofs.Common.{◌≡◌, ℕ, suc, ◌+◌, ◌<◌, Bool, true, false, not, ◌&&◌, cond, List, [], ◌∷◌, ◌++◌, length, map, take, drop, refl, sym, ap, ◌∙◌, nat_lt, ◌==◌, ◌⊎◌, inl, inr, arith}
-use Rattle.std.specs.List.{slice_split, onto_first, filter, list_all, position_or_len, before_first}
+use Rattle.std.proofs.Common.{◌≡◌, ℕ, ◌+◌, ◌<◌, Bool, true, false, not, ◌&&◌, cond, List, [], ◌∷◌, length, map, take, drop, refl, sym, ap, ◌∙◌, nat_lt, ◌==◌, ◌⊎◌, inl, inr, arith}
+use Rattle.std.specs.List.{slice_split, onto_first, filter, list_all, position_or_len}
 use Rattle.std.specs.Prelude.{Option, Some, None, is_none, position}
 use Rattle.std.specs.Option.{option_map}
 use Rattle.std.proofs.lemmas.Bool.Decides.{nat_tests}
@@ -17,11 +17,11 @@ bytes_of w = w.word
 first_part : (rest : List ℕ) → (first : List ℕ) × (others : List (List ℕ)) × (slice_split is_blank rest ≡ first ∷ others) × (is_nonempty first ≡ not (ends_word rest))
 first_part [] = ([], [], refl, refl)
 first_part (b ∷ rest) = elim (tested (is_blank b)) [
-    | inl e ↦ ([], slice_split is_blank rest, ap (λ t. cond t ([] ∷ slice_split is_blank rest) (onto_first b (slice_split is_blank rest))) e, ap not (sym e))
-    | inr e ↦
-        let p = first_part rest in
-        (b ∷ p.0, p.1, ap (λ t. cond t ([] ∷ slice_split is_blank rest) (onto_first b (slice_split is_blank rest))) e ∙ ap (onto_first b) p.2, ap not (sym e))
-  ]
+  | inl e ↦ ([], slice_split is_blank rest, ap (λ t. cond t ([] ∷ slice_split is_blank rest) (onto_first b (slice_split is_blank rest))) e, ap not (sym e))
+  | inr e ↦
+      let p = first_part rest in
+      (b ∷ p.0, p.1, ap (λ t. cond t ([] ∷ slice_split is_blank rest) (onto_first b (slice_split is_blank rest))) e ∙ ap (onto_first b) p.2, ap not (sym e))
+]
 
 onto_one : (column b : ℕ) (ends : Bool) (first : List ℕ) (others : List (List ℕ)) (words : List Marked) → is_nonempty first ≡ not ends
     → filter is_nonempty (first ∷ others) ≡ map bytes_of words → filter is_nonempty (onto_first b (first ∷ others)) ≡ map bytes_of (onto_words column b ends words)
@@ -38,15 +38,15 @@ onto_one column b false (c ∷ first) others (w ∷ words) s e =
 pub words_are_parts : (column : ℕ) (bytes : List ℕ) → filter is_nonempty (slice_split is_blank bytes) ≡ map bytes_of (words_from column bytes)
 words_are_parts column [] = sym (ap (map bytes_of) (words_from-nothing column))
 words_are_parts column (b ∷ rest) = elim (tested (is_blank b)) [
-    | inl e ↦ ap (λ t. filter is_nonempty (cond t ([] ∷ slice_split is_blank rest) (onto_first b (slice_split is_blank rest)))) e
-        ∙ words_are_parts (column + 1) rest ∙ sym (ap (map bytes_of) (words_from-blank column b rest e))
-    | inr e ↦
-        let p = first_part rest in
-        ap (λ t. filter is_nonempty (cond t ([] ∷ slice_split is_blank rest) (onto_first b (slice_split is_blank rest)))) e
-        ∙ ap (λ parts. filter is_nonempty (onto_first b parts)) p.2
-        ∙ onto_one column b (ends_word rest) p.0 p.1 (words_from (column + 1) rest) p.3 (ap (filter is_nonempty) (sym p.2) ∙ words_are_parts (column + 1) rest)
-        ∙ sym (ap (map bytes_of) (words_from-byte column b rest e))
-  ]
+  | inl e ↦ ap (λ t. filter is_nonempty (cond t ([] ∷ slice_split is_blank rest) (onto_first b (slice_split is_blank rest)))) e
+      ∙ words_are_parts (column + 1) rest ∙ sym (ap (map bytes_of) (words_from-blank column b rest e))
+  | inr e ↦
+      let p = first_part rest in
+      ap (λ t. filter is_nonempty (cond t ([] ∷ slice_split is_blank rest) (onto_first b (slice_split is_blank rest)))) e
+      ∙ ap (λ parts. filter is_nonempty (onto_first b parts)) p.2
+      ∙ onto_one column b (ends_word rest) p.0 p.1 (words_from (column + 1) rest) p.3 (ap (filter is_nonempty) (sym p.2) ∙ words_are_parts (column + 1) rest)
+      ∙ sym (ap (map bytes_of) (words_from-byte column b rest e))
+]
 
 abbrev pub is_text_word : Marked → Bool
 is_text_word w = list_all is_text_byte w.word
@@ -71,9 +71,9 @@ text_onto column b false (w ∷ words) = and_assoc (is_text_byte b) (list_all is
 pub text_in_words : (column : ℕ) (bytes : List ℕ) → list_all is_text_byte bytes ≡ list_all is_text_word (words_from column bytes)
 text_in_words column [] = sym (ap (list_all is_text_word) (words_from-nothing column))
 text_in_words column (b ∷ rest) = elim (tested (is_blank b)) [
-    | inl e ↦ ap (λ t. t && list_all is_text_byte rest) (blank_is_text b e) ∙ text_in_words (column + 1) rest ∙ sym (ap (list_all is_text_word) (words_from-blank column b rest e))
-    | inr e ↦ ap (λ t. is_text_byte b && t) (text_in_words (column + 1) rest) ∙ sym (text_onto column b (ends_word rest) (words_from (column + 1) rest)) ∙ sym (ap (list_all is_text_word) (words_from-byte column b rest e))
-  ]
+  | inl e ↦ ap (λ t. t && list_all is_text_byte rest) (blank_is_text b e) ∙ text_in_words (column + 1) rest ∙ sym (ap (list_all is_text_word) (words_from-blank column b rest e))
+  | inr e ↦ ap (λ t. is_text_byte b && t) (text_in_words (column + 1) rest) ∙ sym (text_onto column b (ends_word rest) (words_from (column + 1) rest)) ∙ sym (ap (list_all is_text_word) (words_from-byte column b rest e))
+]
 
 none_at : (n l : ℕ) (b : Bool) → ((b ≡ true) × (n ≡ l)) ⊎ ((b ≡ false) × (n < l)) → is_none (cond (nat_lt n l) (Some n) None) ≡ b
 none_at n l b h = grind (arith, nat_tests)
@@ -83,12 +83,12 @@ first_bad_at : (bytes : List ℕ) → ((list_all is_text_byte bytes ≡ true) ×
     ⊎ ((list_all is_text_byte bytes ≡ false) × (position_or_len (λ b. not (is_text_byte b)) bytes < length bytes))
 first_bad_at [] = inl (refl, refl)
 first_bad_at (b ∷ rest) = elim (tested (is_text_byte b)) [
-    | inl e ↦ elim (first_bad_at rest) [
-        | inl h ↦ inl (ap (λ t. t && list_all is_text_byte rest) e ∙ h.0, ap (λ t. cond (not (not t)) (1 + position_or_len (λ b. not (is_text_byte b)) rest) 0) e ∙ omega (arith, h.1))
-        | inr h ↦ inr (ap (λ t. t && list_all is_text_byte rest) e ∙ h.0, rw e (omega (arith, h.1)))
-      ]
-    | inr e ↦ inr (ap (λ t. t && list_all is_text_byte rest) e, rw e (omega arith))
+  | inl e ↦ elim (first_bad_at rest) [
+    | inl h ↦ inl (ap (λ t. t && list_all is_text_byte rest) e ∙ h.0, ap (λ t. cond (not (not t)) (1 + position_or_len (λ b. not (is_text_byte b)) rest) 0) e ∙ omega (arith, h.1))
+    | inr h ↦ inr (ap (λ t. t && list_all is_text_byte rest) e ∙ h.0, rw e (omega (arith, h.1)))
   ]
+  | inr e ↦ inr (ap (λ t. t && list_all is_text_byte rest) e, rw e (omega arith))
+]
 
 same_none : {X Y : Type 0} (f : X → Y) (o : Option X) → is_none (option_map f o) ≡ is_none o
 same_none f None = refl

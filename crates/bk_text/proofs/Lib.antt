@@ -1,4 +1,5 @@
 pub mod Cuts
 pub mod Digits
 pub mod Laws
+pub mod Places
 pub mod Rows

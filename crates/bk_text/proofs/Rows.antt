@@ -50,9 +50,9 @@ none_more column n bytes e = rw e (ap (λ k. words_from k bytes) (omega arith))
 pub skip_blanks : (column : ℕ) (bytes : List ℕ) → words_from column bytes ≡ words_from (column + blanks_before bytes) (drop (blanks_before bytes) bytes)
 skip_blanks column [] = none_more column 0 [] refl
 skip_blanks column (b ∷ rest) = elim (tested (is_blank b)) [
-    | inl e ↦ words_from-blank column b rest e ∙ skip_blanks (column + 1) rest ∙ one_more column (blanks_before (b ∷ rest)) (blanks_before rest) b rest (blanks_before-more b rest e)
-    | inr e ↦ none_more column (blanks_before (b ∷ rest)) (b ∷ rest) (blanks_before-none b rest e)
-  ]
+  | inl e ↦ words_from-blank column b rest e ∙ skip_blanks (column + 1) rest ∙ one_more column (blanks_before (b ∷ rest)) (blanks_before rest) b rest (blanks_before-more b rest e)
+  | inr e ↦ none_more column (blanks_before (b ∷ rest)) (b ∷ rest) (blanks_before-none b rest e)
+]
 
 abbrev marked : ℕ → List ℕ → Marked
 marked column word = record { column = column; word = word }
@@ -73,22 +73,22 @@ pub first_word : (column b : ℕ) (rest : List ℕ) → is_blank b ≡ false →
     ≡ marked column (take (word_before (b ∷ rest)) (b ∷ rest)) ∷ words_from (column + word_before (b ∷ rest)) (drop (word_before (b ∷ rest)) (b ∷ rest))
 first_word column b [] e = word_ends column b [] e refl refl
 first_word column b (d ∷ more) e = elim (tested (is_blank d)) [
-    | inl blank ↦ word_ends column b (d ∷ more) e blank (word_before-none d more blank)
-    | inr byte ↦ words_from-byte column b (d ∷ more) e ∙ ap (λ t. onto_words column b t (words_from (column + 1) (d ∷ more))) byte
-        ∙ ap (onto_words column b false) (first_word (column + 1) d more byte)
-        ∙ word_grows column (word_before (b ∷ d ∷ more)) (word_before (d ∷ more)) b (d ∷ more) (word_before-more b (d ∷ more) e)
-  ]
+  | inl blank ↦ word_ends column b (d ∷ more) e blank (word_before-none d more blank)
+  | inr byte ↦ words_from-byte column b (d ∷ more) e ∙ ap (λ t. onto_words column b t (words_from (column + 1) (d ∷ more))) byte
+      ∙ ap (onto_words column b false) (first_word (column + 1) d more byte)
+      ∙ word_grows column (word_before (b ∷ d ∷ more)) (word_before (d ∷ more)) b (d ∷ more) (word_before-more b (d ∷ more) e)
+]
 
 -- what follows the blanks begins with none
 pub byte_first : (bytes : List ℕ) (b : ℕ) (rest : List ℕ) → drop (blanks_before bytes) bytes ≡ b ∷ rest → is_blank b ≡ false
 byte_first [] b rest e = absurd cc
 byte_first (a ∷ more) b rest e = elim (tested (is_blank a)) [
-    | inl blank ↦ byte_first more b rest (sym (ap (λ n. drop n (a ∷ more)) (blanks_before-more a more blank)) ∙ e)
-    | inr byte ↦
-        let same : a ∷ more ≡ b ∷ rest = sym (ap (λ n. drop n (a ∷ more)) (blanks_before-none a more byte)) ∙ e in
-        let head : a ≡ b = cc in
-        ap is_blank (sym head) ∙ byte
-  ]
+  | inl blank ↦ byte_first more b rest (sym (ap (λ n. drop n (a ∷ more)) (blanks_before-more a more blank)) ∙ e)
+  | inr byte ↦
+      let same : a ∷ more ≡ b ∷ rest = sym (ap (λ n. drop n (a ∷ more)) (blanks_before-none a more byte)) ∙ e in
+      let head : a ≡ b = cc in
+      ap is_blank (sym head) ∙ byte
+]
 
 -- the first word of what is left, and what is left behind it
 pub cut : (column : ℕ) (bytes : List ℕ) (b : ℕ) (front : List ℕ) → drop (blanks_before bytes) bytes ≡ b ∷ front → words_from column bytes

@@ -1,5 +1,5 @@
 -- The words of a line, each with the column of its first byte. Columns count bytes from 1.
-use Rattle.std.specs.Prelude.{ℕ, ◌+◌, Bool, true, false, not, List, [], ◌∷◌, length, Option, position, if◌then◌else◌}
+use Rattle.std.specs.Prelude.{◌≡◌, ℕ, ◌+◌, ◌-◌, ◌≤◌, take, drop, Bool, true, false, not, List, [], ◌∷◌, length, Option, position, if◌then◌else◌}
 use Rattle.std.specs.Option.{option_map}
 use Rattle.bk_text.specs.Texts.{is_text_byte, is_blank, before_comment, comment_of}
 
@@ -43,3 +43,8 @@ row_of mark line = record {
   bad = bad_from (length (before_comment mark line) + 1) (comment_of mark line);
   end = length line + 1;
 }
+
+-- a word's bytes are those of the line from its column on, where the line begins in a column
+pub record StandsIn (column : ℕ) (bytes : List ℕ) (w : Marked) : Type 0 where
+  pub behind : column ≤ w.column
+  pub slice : take (length w.word) (drop (w.column - column) bytes) ≡ w.word

@@ -7,13 +7,13 @@
 //! line by line, for grammars with comments.
 #![tactic(auto)]
 
-
+mod law;
 mod lines;
 mod numbers;
 mod row;
 mod scan;
 
-
+pub use law::words_of_a_line;
 pub use lines::{Lines, Word};
 pub use numbers::number;
 pub use row::{Placed, Row};

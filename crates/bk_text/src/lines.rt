@@ -16,7 +16,9 @@ pub enum Word {
         to: usize,
     },
     /// The end of the line of this number.
-    LineEnd { line: u64 },
+    LineEnd {
+        line: u64,
+    },
     /// Nothing is left.
     End,
 }

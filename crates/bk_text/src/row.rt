@@ -51,9 +51,9 @@ impl<'a> Model for Row<'a> {
     ghost Value = { LineWords };
 
     ghost view = { λ r. record {
-        words = words_from r.column r.rest.now;
-        bad = bad_from r.comment_column r.comment.now;
-        end = r.end;
+      words = words_from r.column r.rest.now;
+      bad = bad_from r.comment_column r.comment.now;
+      end = r.end;
     } };
 
     ghost invariant = { λ r. (r.column + length r.rest.now < 2 ^ 64) × (r.comment_column + length r.comment.now < 2 ^ 64) };

@@ -59,9 +59,9 @@ more_digits k (suc m) n acc small some h = omega (arith, h m (next_small m n sma
 hex_length : (k m n : ℕ) (acc : List ℕ) → n < 16 ^ (suc m) → length (digits_onto k 16 false n acc) ≤ suc m + length acc
 hex_length zero m n acc small = omega arith
 hex_length (suc k) m n acc small = elim (tested (n / 16 == 0)) [
-    | inl e ↦ rw e (omega arith)
-    | inr e ↦ rw e (omega (arith, more_digits k m n (digit_glyph false (n % 16) ∷ acc) small (grind (arith, nat_tests, e)) (λ j less. hex_length k j (n / 16) (digit_glyph false (n % 16) ∷ acc) less)))
-  ]
+  | inl e ↦ rw e (omega arith)
+  | inr e ↦ rw e (omega (arith, more_digits k m n (digit_glyph false (n % 16) ∷ acc) small (grind (arith, nat_tests, e)) (λ j less. hex_length k j (n / 16) (digit_glyph false (n % 16) ∷ acc) less)))
+]
 
 pub hexadecimal_short : (n : ℕ) → n < 2 ^ 40 → length (digits 16 false n) ≤ 16
 unfolding digits

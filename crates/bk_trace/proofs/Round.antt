@@ -233,9 +233,10 @@ line_first : (word : List ℕ) (words : List (List ℕ)) (rest : List ℕ) → A
     → (rows (lines ((sentence (word ∷ words) ++ 10 ∷ []) ++ rest)) ≡ (word ∷ words) ∷ rows (lines rest)) × (are_text (lines rest) ≡ true → are_text (lines ((sentence (word ∷ words) ++ 10 ∷ []) ++ rest)) ≡ true)
 line_first word words rest h =
     let quiet = sentence_quiet (word ∷ words) h in
-    let cut = line_again (sentence (word ∷ words)) rest quiet in
-    (ap rows cut ∙ ap (λ row. filter is_nonempty (row ∷ map (words_of comment_mark) (lines rest))) (words_again (word ∷ words) h),
-    λ e. ap are_text cut ∙ both (list_all is_text_byte (sentence (word ∷ words))) (are_text (lines rest)) (implied is_quiet is_text_byte quiet_is_text (sentence (word ∷ words)) quiet) e)
+    let cut = line_again (sentence (word ∷ words)) rest quiet in (
+      ap rows cut ∙ ap (λ row. filter is_nonempty (row ∷ map (words_of comment_mark) (lines rest))) (words_again (word ∷ words) h),
+      λ e. ap are_text cut ∙ both (list_all is_text_byte (sentence (word ∷ words))) (are_text (lines rest)) (implied is_quiet is_text_byte quiet_is_text (sentence (word ∷ words)) quiet) e,
+    )
 
 lines_again : (caches : ℕ) (ls : List (ℕ × Op)) → caches ≤ 256 → AllByRecursion (IsLine caches) ls
     → (rows (lines (flat_map line_text ls)) ≡ map line_words ls) × (are_text (lines (flat_map line_text ls)) ≡ true) × (lines_of caches (map line_words ls) ≡ Some ls)
@@ -244,10 +245,11 @@ lines_again caches (line ∷ ls) low h =
     let behind = lines_again caches ls low h.1 in
     let cache : line.0 < 256 = omega (arith, h.0.below) in
     let text : flat_map line_text (line ∷ ls) ≡ (sentence (line_words line) ++ 10 ∷ []) ++ flat_map line_text ls = flat_map-cons line_text line ls ∙ ap (λ t. t ++ flat_map line_text ls) (line_is line.0 line.1) in
-    let first = line_first (decimal line.0) (op_words line.1) (flat_map line_text ls) (decimal_word line.0 (omega arith), ops_are_words line.1 h.0.op) in
-    (ap (λ t. rows (lines t)) text ∙ first.0 ∙ ap (λ r. line_words line ∷ r) behind.0,
-    ap (λ t. are_text (lines t)) text ∙ first.1 behind.1,
-    rw (op_is_read caches line.0 line.1 h.0.below low h.0.op, behind.2) refl)
+    let first = line_first (decimal line.0) (op_words line.1) (flat_map line_text ls) (decimal_word line.0 (omega arith), ops_are_words line.1 h.0.op) in (
+      ap (λ t. rows (lines t)) text ∙ first.0 ∙ ap (λ r. line_words line ∷ r) behind.0,
+      ap (λ t. are_text (lines t)) text ∙ first.1 behind.1,
+      rw (op_is_read caches line.0 line.1 h.0.below low h.0.op, behind.2) refl,
+    )
 
 few_rows : (read : List (List (List ℕ))) (ls : List (ℕ × Op)) → read ≡ map line_words ls → length ls ≤ 10000 → nat_le (length read) 10000 ≡ true
 few_rows read ls is few =

@@ -83,9 +83,9 @@ config_textual word x e = literal word (codes "config") refl (cond_some (is_conf
 name_or : (word text : List ℕ) (name : Name) (others : Option Name) (x : Name) → list_all is_text_byte text ≡ true
     → (others ≡ Some x → list_all is_text_byte word ≡ true) → cond (bytes_eq word text) (Some name) others ≡ Some x → list_all is_text_byte word ≡ true
 name_or word text name others x plain more e = elim (tested (bytes_eq word text)) [
-    | inl is ↦ literal word text plain is
-    | inr not ↦ more (sym (ap (λ t. cond t (Some name) others) not) ∙ e)
-  ]
+  | inl is ↦ literal word text plain is
+  | inr not ↦ more (sym (ap (λ t. cond t (Some name) others) not) ∙ e)
+]
 
 pub names_textual : IsTextual name_of
 names_textual word x e =

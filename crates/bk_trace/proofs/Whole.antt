@@ -1,6 +1,6 @@
 -- A text is read exactly where it is of the grammar.
 use Rattle.std.proofs.Common.{◌≡◌, ℕ, suc, ◌+◌, ◌<◌, ◌≤◌, inl, inr, Bool, true, false, ◌&&◌, ◌||◌, cond, List, [], ◌∷◌, length, map, refl, sym, ap, ◌∙◌, zero-add, subst, arith}
-use Rattle.std.specs.Prelude.{Option, Some, None, is_none, option_and_then, nat_lt, nat_le, Result, Ok, Err, IfOk}
+use Rattle.std.specs.Prelude.{Option, Some, None, is_none, option_and_then, nat_lt, nat_le, Result, Ok, Err, IfOk, IfErr}
 use Rattle.std.specs.Option.{option_map}
 use Rattle.std.specs.List.{list_all, list_any, filter, cons_option}
 use Rattle.std.specs.Str.Lines.{lines}
@@ -12,8 +12,9 @@ use Rattle.bk_text.specs.Rows.{Marked, LineWords}
 use Rattle.bk_text.proofs.Rows.{tested}
 use Rattle.bk_text.proofs.Laws.{bytes_of, is_text_word, is_text_row, text_in_row, words_in_row}
 use Rattle.bk_trace.specs.Traces.{Parts}
-use Rattle.bk_trace.specs.Faults.{Bad, bad, Gives}
+use Rattle.bk_trace.specs.Faults.{Bad, bad, Gives, IsOff}
 use Rattle.bk_trace.specs.declared.fault.TraceFault.{TraceFault}
+use Rattle.bk_trace.specs.declared.fault.TraceFault.TheVariants as errors
 use Rattle.bk_trace.specs.Grammar.{comment_mark, number_below, shape_of, operation_of, lines_of, parts_of, trace_of}
 use Rattle.bk_trace.specs.Reading.{◌>>=◌, config_at, operation_at, surplus, line_at, on_line, row_at, counted, lines_at, no_config, first_at, found, config_from, has_words, lines_read, trace_at}
 use Rattle.bk_trace.specs.declared.fault.At.{At}
@@ -219,9 +220,9 @@ nothing_read texts e = sym (guard_none (are_text texts)) ∙ ap (λ r. guard (ar
 pub agrees : (text : List ℕ) → ok_of (trace_at text) ≡ trace_of text
 unfolding trace_of
 agrees text = elim (tested (list_any has_words (lines text))) [
-    | inl e ↦ ap (λ t. ok_of (cond t (lines_read 10000 (lines text)) (Err no_config))) e ∙ lines_read_agrees (lines text)
-    | inr e ↦ ap (λ t. ok_of (cond t (lines_read 10000 (lines text)) (Err no_config))) e ∙ nothing_read (lines text) (no_rows (lines text) e)
-  ]
+  | inl e ↦ ap (λ t. ok_of (cond t (lines_read 10000 (lines text)) (Err no_config))) e ∙ lines_read_agrees (lines text)
+  | inr e ↦ ap (λ t. ok_of (cond t (lines_read 10000 (lines text)) (Err no_config))) e ∙ nothing_read (lines text) (no_rows (lines text) e)
+]
 
 -- ---- what a call answers
 
@@ -235,3 +236,8 @@ is_found text (Err e) given = tt
 
 pub is_only : (text : List ℕ) (r : Result Parts TraceFault) (p : Parts) → Gives (λ t. t) r (trace_at text) → trace_of text ≡ Some p → Gives (λ t. t) r (Ok p)
 is_only text r p given e = subst (λ (read : Result Parts Bad). Gives (λ t. t) r read) (read_some (trace_at text) p (agrees text ∙ e)) given
+
+pub is_off : (text : List ℕ) (r : Result Parts TraceFault) → Gives (λ t. t) r (trace_at text) → IfErr r (λ e. IsOff e (trace_of text))
+is_off text (Ok t) given = tt
+is_off text (Err errors.Memory) given = tt
+is_off text (Err (errors.Bad line column kind)) given = sym (agrees text) ∙ ap ok_of given

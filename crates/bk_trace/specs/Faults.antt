@@ -1,5 +1,5 @@
 -- The faults of a trace's text.
-use Rattle.std.specs.Prelude.{◌≡◌, ℕ, Result, Ok, Err}
+use Rattle.std.specs.Prelude.{◌≡◌, ℕ, Option, None, Result, Ok, Err}
 use Rattle.bk_trace.specs.declared.fault.Kind.{Kind}
 use Rattle.bk_trace.specs.declared.fault.Kind.TheVariants as kinds
 use Rattle.bk_trace.specs.declared.fault.At.{At}
@@ -36,3 +36,8 @@ Fails (errors.Bad line column kind) read = read ≡ Err (record { line = line; c
 abbrev pub Gives : {X Y : Type 0} → (X → Y) → Result X TraceFault → Result Y Bad → Type 0
 Gives view (Ok x) read = read ≡ Ok (view x)
 Gives view (Err e) read = Fails e read
+
+-- a text with a fault spells nothing
+abbrev pub IsOff : {X : Type 0} → TraceFault → Option X → Type 0
+IsOff errors.Memory spelled = Unit {0}
+IsOff (errors.Bad line column kind) spelled = spelled ≡ None

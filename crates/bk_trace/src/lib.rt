@@ -12,20 +12,21 @@
 //!
 //! A number is 1 to 20 decimal digits, or `0x` and 1 to 16 hexadecimal digits of either case, and below
 //! 2^64. Lines end with LF or CR LF, and every other byte is printable ASCII or a tab, in comments too.
+//!
+//! [`read_trace`] answers the trace of a text or its first fault, [`write_trace`] the canonical text of
+//! a trace, and [`generate`] a trace that is drawn from a number.
 #![tactic(auto)]
 
-mod fault;
 mod draws;
+mod fault;
 mod line;
 mod read;
-
 mod trace;
 mod words;
 mod write;
 
-pub use fault::{Kind, TraceFault};
-
 pub use draws::generate;
+pub use fault::{Kind, TraceFault};
 pub use read::read_trace;
 pub use trace::{OPERATION_LIMIT, Trace};
 pub use write::write_trace;

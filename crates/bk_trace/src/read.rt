@@ -1,10 +1,10 @@
-ghost use Rattle.std.specs.Prelude.{◌≡◌, ◌+◌, ◌<◌, ◌≤◌, ◌^◌, ◌++◌, length, Some, Ok, IfOk, OnOk, option_to_list};
+ghost use Rattle.std.specs.Prelude.{◌≡◌, ◌+◌, ◌<◌, ◌≤◌, ◌^◌, ◌++◌, length, Some, Ok, IfOk, IfErr, OnOk, option_to_list};
 ghost use Rattle.std.specs.List.{All, list_any};
 ghost use Rattle.std.specs.Str.Lines.{lines};
 ghost use Rattle.bk_base.specs.Places.{InProfile};
 ghost use Rattle.bk_trace.specs.Traces.{Parts, IsTrace, IsLine};
 ghost use Rattle.bk_trace.specs.Grammar.{trace_of};
-ghost use Rattle.bk_trace.specs.Faults.{fault_of, Gives};
+ghost use Rattle.bk_trace.specs.Faults.{fault_of, Gives, IsOff};
 ghost use Rattle.bk_trace.specs.Reading.{no_config, has_words, config_from, lines_at, lines_read, trace_at};
 
 use crate::fault::{At, Kind, TraceFault};
@@ -141,6 +141,8 @@ pub fn read_trace(alloc: Global, text: &[u8]) -> Result<Trace, TraceFault>
     ensures found { IfOk result (λ t. trace_of text.now ≡ Some t) }
     // What is spelled so is read, unless memory runs out.
     ensures only { (p : Parts) → trace_of text.now ≡ Some p → Gives (λ t. t) result (Ok p) }
+    // A text with a fault spells nothing.
+    ensures bad { IfErr result (λ e. IsOff e (trace_of text.now)) }
     // Which fault it is.
     ensures exact { Gives (λ t. t) result (trace_at text.now) }
 {

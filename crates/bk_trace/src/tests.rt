@@ -47,19 +47,13 @@ fn finds_the_first_fault(rt: HostRuntime) -> Result<(), Fail> {
     for (text, fault) in [
         (b"config 2 4 2\n0 L 64\n".as_slice(), NONE),
         (b"config 1 1 1".as_slice(), NONE),
-        (
-            b"\n  # hello\nconfig 1 1 1\n\n0 EV 0x0\n".as_slice(),
-            NONE,
-        ),
+        (b"\n  # hello\nconfig 1 1 1\n\n0 EV 0x0\n".as_slice(), NONE),
         (b"config 1 1 1\r\n0 L 0x0\r\n".as_slice(), NONE),
         (
             b"config 1 1 1\n0 S 0x0 00000000000000000001\n".as_slice(),
             NONE,
         ),
-        (
-            b"config 0x1 0x40 0x8\n0x0 US 0x8 0xAbC#\n".as_slice(),
-            NONE,
-        ),
+        (b"config 0x1 0x40 0x8\n0x0 US 0x8 0xAbC#\n".as_slice(), NONE),
         (
             b"config 2 4 2\n0 S 0x10000000000 1\n".as_slice(),
             (2, 5, 44),
@@ -126,7 +120,9 @@ fn writes_what_is_drawn(rt: HostRuntime) -> Result<(), Fail> {
     assert!(rt; text.as_slice() == b"config 2 4 2\n1 S 0x5e8 1\n".as_slice());
     let trace = generate(rt.alloc(), 1, config, 3)?;
     let text = write_trace(rt.alloc(), &trace)?;
-    assert!(rt; text.as_slice() == b"config 2 4 2\n1 S 0x658 1\n1 S 0x4f8 2\n1 EV 0x218\n".as_slice());
+    assert!(rt;
+        text.as_slice() == b"config 2 4 2\n1 S 0x658 1\n1 S 0x4f8 2\n1 EV 0x218\n".as_slice()
+    );
     let again = read_trace(rt.alloc(), &text)
         .ok()
         .ok_or("the text is read")?;

@@ -15,7 +15,12 @@ use std::alloc::{AllocError, Global};
 fn push_config(out: &mut String, config: Config) -> Result<(), AllocError>
     ensures { OnOk result (string_bytes out.new ≡ string_bytes out.old ++ config_text config) }
 {
-    let Config { caches, sets, ways, .. } = config;
+    let Config {
+        caches,
+        sets,
+        ways,
+        ..
+    } = config;
     writeln!(out, "config {caches} {sets} {ways}")
 }
 

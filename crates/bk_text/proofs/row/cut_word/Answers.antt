@@ -15,6 +15,6 @@ returns-clause-some c =
     let front : c.split_at.result.1.now ≡ drop (blanks_before bytes) bytes = c.split_at.ensures.back ∙ ap (λ n. drop n bytes) c.blanks_len.ensures.value in
     let some : 0 < length c.split_at.result.1.now = grind (arith, common_steps) in
     cut_parts c.args.column bytes c.split_at.result.1.now c.split_at.result.0.now c.split_at-2.result.0.now c.split_at-2.result.1.now
-        (c.split_at.ensures.front_len ∙ c.blanks_len.ensures.value) front some (c.split_at-2.ensures.front_len ∙ c.word_len.ensures.value)
-        (c.split_at-2.ensures.front ∙ ap (λ n. take n c.split_at.result.1.now) c.word_len.ensures.value)
-        (c.split_at-2.ensures.back ∙ ap (λ n. drop n c.split_at.result.1.now) c.word_len.ensures.value)
+    (c.split_at.ensures.front_len ∙ c.blanks_len.ensures.value) front some (c.split_at-2.ensures.front_len ∙ c.word_len.ensures.value)
+    (c.split_at-2.ensures.front ∙ ap (λ n. take n c.split_at.result.1.now) c.word_len.ensures.value)
+    (c.split_at-2.ensures.back ∙ ap (λ n. drop n c.split_at.result.1.now) c.word_len.ensures.value)
