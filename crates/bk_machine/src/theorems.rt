@@ -1,0 +1,32 @@
+ghost use Rattle.std.specs.Prelude.{ℕ, List, Some};
+ghost use Rattle.bk_base.specs.Places.{Shape};
+ghost use Rattle.bk_machine.specs.World.{World, empty};
+ghost use Rattle.bk_machine.specs.Runs.{Event, MayHappen, Listed, happens, run};
+ghost use Rattle.bk_machine.specs.Invariant.{Invariant};
+ghost use Rattle.bk_machine.specs.Claims.{Sole, Latest, PendingAgrees, NoForeign, CollectsOwn, Quiet, Rested};
+
+/// The invariant is inductive: the empty state has it, each Issue, Command, Fill and Memory event and each permitted action keeps
+/// it, and so every list of them from the empty state on does. This holds for every configuration and for lists of any length.
+pub fn invariant()
+    ensures start { (k : Shape) → Invariant k (empty k.ways) }
+    ensures event { (k : Shape) (w : World) (e : Event) → MayHappen k w e → Invariant k w → Invariant k (happens k w e) }
+    ensures list { (k : Shape) (events : List Event) → Listed k events (empty k.ways) → Invariant k (run k events (empty k.ways)) }
+{}
+
+/// What a state with the invariant shows of the protocol: a block in E or M is valid in one cache alone and no cache has a block
+/// in two ways; each load has answered the latest store of its word; a way group is pending exactly while a request of it that
+/// was taken isn't settled.
+pub fn protocol()
+    ensures sole { (k : Shape) (w : World) → Invariant k w → Sole w }
+    ensures latest { (k : Shape) (w : World) → Invariant k w → Latest w }
+    ensures pending { (k : Shape) (w : World) → Invariant k w → PendingAgrees w }
+{}
+
+/// What a state with the invariant shows of messages: the head of a command or fill channel always has a row in the receiver's
+/// table; a head that the engine may collect is of the way group of its transaction; and where nothing is under way and no
+/// request is served, no group is pending and no cache waits.
+pub fn traffic()
+    ensures no_foreign { (k : Shape) (w : World) → Invariant k w → NoForeign k w }
+    ensures collects_own { (k : Shape) (w : World) → Invariant k w → CollectsOwn w }
+    ensures rests { (k : Shape) (w : World) → Invariant k w → Quiet w → Rested w }
+{}
