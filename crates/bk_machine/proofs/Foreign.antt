@@ -108,7 +108,7 @@ grants (Settling r u) c m rest g e = absurd (cc e)
 
 -- the rows
 
-mine-back : {X : Type 0} (s : ℕ) (x : Option (ℕ × X)) (y : X) → mine s x ≡ Some y → x ≡ Some (s, y)
+pub mine-back : {X : Type 0} (s : ℕ) (x : Option (ℕ × X)) (y : X) → mine s x ≡ Some y → x ≡ Some (s, y)
 mine-back s None y e = absurd (cc e)
 mine-back {X} s (Some x) y e = decide (eqb s x.0) refl e
   where

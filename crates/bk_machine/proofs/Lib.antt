@@ -13,6 +13,7 @@ pub mod Uncached
 pub mod MemoryComes
 pub mod Issue
 pub mod Take
+pub mod Bounds
 pub mod Collect
 pub mod Send
 pub mod Flush
@@ -34,6 +35,7 @@ pub mod Summary
 pub mod DirectoryReads
 pub mod Opened
 pub mod Permits
+pub mod Readings
 pub mod Records
 pub mod Sound
 pub mod Rows

@@ -52,7 +52,7 @@ inv-held t a h e = grind (arith, nat_tests)
 covered-valid : (x y : Coh) → covers x y ≡ true → is_readable x ≡ true → is_readable y ≡ true
 covered-valid x y e f = grind arith
 
-open-held : (r : ℕ) (b : InProgress) (fl : Flush) (inv : ℕ → Ack) (d h : ℕ → ℕ → Entry) → Copies (Open r b fl inv) d h → (c v t : ℕ) → Holds (d c v) t → is_readable (h c v).state ≡ true
+pub open-held : (r : ℕ) (b : InProgress) (fl : Flush) (inv : ℕ → Ack) (d h : ℕ → ℕ → Entry) → Copies (Open r b fl inv) d h → (c v t : ℕ) → Holds (d c v) t → is_readable (h c v).state ≡ true
 open-held r b fl inv d h copies c v t k =
     flush-held fl c v h copies.standing.0 (inv-held (op_tag b.op) (inv c) (flush_effect fl c v (h c v)) (covered-valid (d c v).state _ (copies.matches c v).covered k.is_valid))
 
@@ -75,7 +75,7 @@ module _ (k : Shape) (w : World) (inv : Invariant k w) (s : ℕ) (x : Transactio
   pub opened : x.granted ≡ false → AtOpen (inv.groups s).0 x
   opened g = at_open (inv.groups s).0 x standing g
 
-  copies-here : x.granted ≡ false → Copies (inv.groups s).0 (w.directory s) (w.held s)
+  pub copies-here : x.granted ≡ false → Copies (inv.groups s).0 (w.directory s) (w.held s)
   copies-here g = subst (λ (d : ℕ → ℕ → Entry). Copies (inv.groups s).0 d (w.held s))
       (ap (λ (o : Option Transaction). paid o (w.directory s)) now ∙ paid-open x (w.directory s) (opened g).at.no_requester_debt (opened g).at.no_owner_debt) (inv.groups s).1.copies
 

@@ -6,6 +6,8 @@ pub mod Entries
 pub mod Invariant
 pub mod Messages
 pub mod Phases
+pub mod Products
+pub mod Readings
 pub mod Runs
 pub mod Steps
 pub mod Tables

@@ -4,6 +4,7 @@ ghost use Rattle.bk_machine.specs.World.{World, empty};
 ghost use Rattle.bk_machine.specs.Runs.{Event, MayHappen, Listed, happens, run};
 ghost use Rattle.bk_machine.specs.Invariant.{Invariant};
 ghost use Rattle.bk_machine.specs.Claims.{Sole, Latest, PendingAgrees, NoForeign, CollectsOwn, Quiet, Rested};
+ghost use Rattle.bk_machine.specs.Readings.{Readings, UnderWay};
 
 /// The invariant is inductive: the empty state has it, each Issue, Command, Fill and Memory event and each permitted action keeps
 /// it, and so every list of them from the empty state on does. This holds for every configuration and for lists of any length.
@@ -29,4 +30,11 @@ pub fn traffic()
     ensures no_foreign { (k : Shape) (w : World) → Invariant k w → NoForeign k w }
     ensures collects_own { (k : Shape) (w : World) → Invariant k w → CollectsOwn w }
     ensures rests { (k : Shape) (w : World) → Invariant k w → Quiet w → Rested w }
+{}
+
+/// What a state with the invariant shows of the directory and of the transaction: what the engine reads as own, owner and others
+/// while a request is served, and how much is under way for it, in messages and in acks to come.
+pub fn engine_view()
+    ensures readings { (k : Shape) (w : World) → Invariant k w → Readings k w }
+    ensures under_way { (k : Shape) (w : World) → Invariant k w → UnderWay k w }
 {}
