@@ -1,5 +1,6 @@
 pub mod Allowed
 pub mod Copies
+pub mod Computed
 pub mod Fewer
 pub mod Growing
 pub mod Inv

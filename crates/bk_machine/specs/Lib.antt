@@ -3,6 +3,7 @@ pub mod CacheTable
 pub mod Claims
 pub mod Directory
 pub mod Entries
+pub mod Example
 pub mod Invariant
 pub mod Messages
 pub mod Phases

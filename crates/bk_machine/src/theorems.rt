@@ -1,10 +1,11 @@
-ghost use Rattle.std.specs.Prelude.{ℕ, List, Some};
+ghost use Rattle.std.specs.Prelude.{◌≡◌, ℕ, List};
 ghost use Rattle.bk_base.specs.Places.{Shape};
 ghost use Rattle.bk_machine.specs.World.{World, empty};
 ghost use Rattle.bk_machine.specs.Runs.{Event, MayHappen, Listed, happens, run};
 ghost use Rattle.bk_machine.specs.Invariant.{Invariant};
 ghost use Rattle.bk_machine.specs.Claims.{Sole, Latest, PendingAgrees, NoForeign, CollectsOwn, Quiet, Rested};
 ghost use Rattle.bk_machine.specs.Readings.{Readings, UnderWay};
+ghost use Rattle.bk_machine.specs.Example.{shape, events, answers};
 
 /// The invariant is inductive: the empty state has it, each Issue, Command, Fill and Memory event and each permitted action keeps
 /// it, and so every list of them from the empty state on does. This holds for every configuration and for lists of any length.
@@ -37,4 +38,11 @@ pub fn traffic()
 pub fn engine_view()
     ensures readings { (k : Shape) (w : World) → Invariant k w → Readings k w }
     ensures under_way { (k : Shape) (w : World) → Invariant k w → UnderWay k w }
+{}
+
+/// The machine moves: a run of 64 events and permitted actions, and what its operations answer. A load, a store without a word to
+/// the engine, a transfer, a flush with its write back, an uncached store that invalidates, an eviction and an uncached load.
+pub fn example()
+    ensures listed { Listed shape events (empty 1) }
+    ensures answers { (run shape events (empty 1)).history ≡ answers }
 {}
