@@ -16,6 +16,7 @@ pub mod Issue
 pub mod Take
 pub mod Bounds
 pub mod Collect
+pub mod Collectable
 pub mod Send
 pub mod Flush
 pub mod Engine
@@ -40,5 +41,5 @@ pub mod Readings
 pub mod Records
 pub mod Sound
 pub mod Rows
-pub mod More
+pub mod Resting
 pub mod Foreign

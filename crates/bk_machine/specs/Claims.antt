@@ -1,12 +1,12 @@
 -- What the table machine keeps: sole writers, latest answers, and pending groups.
-use Rattle.std.specs.Prelude.{ℕ, ◌≡◌, ◌≢◌, ◌+◌, ◌<◌, ◌≤◌, true, false, List, [], ◌∷◌, Some, None}
+use Rattle.std.specs.Prelude.{ℕ, ◌≡◌, ◌≢◌, ◌+◌, ◌<◌, ◌≤◌, true, false, List, [], ◌∷◌, Option, Some, None}
 use Rattle.bk_base.specs.Places.{Shape}
 use Rattle.bk_base.specs.Tables.{put}
 use Rattle.bk_base.specs.States.{is_writable}
-use Rattle.bk_machine.specs.Entries.{Holds}
+use Rattle.bk_machine.specs.Entries.{Holds, times}
 use Rattle.bk_machine.specs.Words.{Completed, answer_is, after_op}
-use Rattle.bk_machine.specs.Messages.{ToCache, FillMessage, Response, CohAck, Block}
-use Rattle.bk_machine.specs.Transactions.{Transaction}
+use Rattle.bk_machine.specs.Messages.{ToCache, FillMessage, Response, InvAck, Block, answer_of}
+use Rattle.bk_machine.specs.Transactions.{Transaction, Asked, ReadAsked}
 use Rattle.bk_machine.specs.World.{World}
 use Rattle.bk_machine.specs.Runs.{Command, Fill, step_of, has_step}
 
@@ -36,11 +36,19 @@ pub record NoForeign (k : Shape) (w : World) : Type 0 where
   pub fill : (to from s : ℕ) (m : FillMessage) (rest : List (ℕ × FillMessage)) → to < k.caches → from < k.caches → w.fill to from ≡ (s, m) ∷ rest
       → has_step (step_of k w (Fill to from)) ≡ true
 
--- A head that the engine may collect is of the transaction's own group: an InvAck, Wb or NullWb of its responses, a Block.
-pub record CollectsOwn (w : World) : Type 0 where
-  pub response : (s u c : ℕ) (x : Transaction) (m : Response) (rest : List (ℕ × Response)) → w.transaction ≡ Some (s, x) → ((t : ℕ) → m ≢ CohAck t)
-      → w.response c ≡ (u, m) ∷ rest → u ≡ s
-  pub block : (s u : ℕ) (x : Transaction) (b : Block) (rest : List (ℕ × Block)) → w.transaction ≡ Some (s, x) → w.memin ≡ (u, b) ∷ rest → u ≡ s
+-- The engine serves a request of group s that isn't granted, and P holds of its transaction.
+pub record Serves (w : World) (s : ℕ) (P : Transaction → Type 0) : Type 0 where
+  pub transaction : Transaction
+  pub is : w.transaction ≡ Some (s, transaction)
+  pub ungranted : transaction.granted ≡ false
+  pub so : P transaction
+
+-- A head that isn't CohAck is of the transaction's own group and comes when it is waited for: an InvAck from a cache whose ack is
+-- to come, a Wb or NullWb while a flush is asked, a Block while a read is asked.
+pub record Collectable (w : World) : Type 0 where
+  pub ack : (s c t : ℕ) (rest : List (ℕ × Response)) → w.response c ≡ (s, InvAck t) ∷ rest → Serves w s (λ x. times c x.waiting ≡ 1)
+  pub answer : (s c t : ℕ) (words : Option (ℕ → ℕ)) (rest : List (ℕ × Response)) → w.response c ≡ (s, answer_of t words) ∷ rest → Serves w s (λ x. x.write_back ≡ Asked)
+  pub block : (s : ℕ) (b : Block) (rest : List (ℕ × Block)) → w.memin ≡ (s, b) ∷ rest → Serves w s (λ x. x.reading ≡ ReadAsked)
 
 -- nothing is under way to or from a cache, and the engine serves no request
 pub record Quiet (w : World) : Type 0 where

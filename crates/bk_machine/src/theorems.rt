@@ -3,7 +3,7 @@ ghost use Rattle.bk_base.specs.Places.{Shape};
 ghost use Rattle.bk_machine.specs.World.{World, empty};
 ghost use Rattle.bk_machine.specs.Runs.{Event, MayHappen, Listed, happens, run};
 ghost use Rattle.bk_machine.specs.Invariant.{Invariant};
-ghost use Rattle.bk_machine.specs.Claims.{Sole, Latest, PendingAgrees, NoForeign, CollectsOwn, Quiet, Rested};
+ghost use Rattle.bk_machine.specs.Claims.{Sole, Latest, PendingAgrees, NoForeign, Collectable, Quiet, Rested};
 ghost use Rattle.bk_machine.specs.Readings.{Readings, UnderWay};
 ghost use Rattle.bk_machine.specs.Example.{shape, events, answers};
 
@@ -25,11 +25,11 @@ pub fn protocol()
 {}
 
 /// What a state with the invariant shows of messages: the head of a command or fill channel always has a row in the receiver's
-/// table; a head that the engine may collect is of the way group of its transaction; and where nothing is under way and no
-/// request is served, no group is pending and no cache waits.
+/// table; each other head than CohAck that comes to the engine is of the way group of the request that it serves, and is waited
+/// for; and where nothing is under way and no request is served, no group is pending and no cache waits.
 pub fn traffic()
     ensures no_foreign { (k : Shape) (w : World) → Invariant k w → NoForeign k w }
-    ensures collects_own { (k : Shape) (w : World) → Invariant k w → CollectsOwn w }
+    ensures collectable { (k : Shape) (w : World) → Invariant k w → Collectable w }
     ensures rests { (k : Shape) (w : World) → Invariant k w → Quiet w → Rested w }
 {}
 

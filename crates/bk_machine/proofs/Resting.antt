@@ -1,45 +1,15 @@
--- What else good groups say: whose a head is, and that a quiet system rests.
-use Rattle.std.proofs.Common.{◌≡◌, ℕ, suc, ◌+◌, ◌≢◌, Bool, true, false, cond, not, eqb, refl, arith, List, [], ◌∷◌, sym, ◌∙◌, subst, ap, length}
+-- A quiet machine that serves no request rests: no group is pending and no cache waits.
+use Rattle.std.proofs.Common.{◌≡◌, ℕ, false, not, refl, arith, [], sym, ◌∙◌, subst, ap}
 use Rattle.std.specs.Prelude.{Option, Some, None}
 use Rattle.std.proofs.lemmas.Bool.Decides.{nat_tests}
-use Rattle.bk_machine.specs.Messages.{StTr, Blk, StWake, UcBlk, Response, CohAck, Block, op_tag, op_word}
+use Rattle.bk_machine.specs.Messages.{StTr, Blk, StWake, UcBlk, CohAck, op_tag, op_word}
 use Rattle.bk_machine.specs.Transactions.{InProgress, Transaction}
 use Rattle.bk_machine.specs.Phases.{Flight, ByBlock, ByWake, ByTransfer, ByFill, ByWord, ByDone, Phase, Free, Open, Flying, Settling, commands_of, fills_of, responses_of, is_taken, asks, at_cache, flight_command, flight_fill, uncached_done}
-use Rattle.bk_machine.specs.Invariant.{Good, reads, is_reading, GrantedTransaction, TransactionAt, is_free}
-use Rattle.bk_machine.specs.World.{World, only, mine, view}
-use Rattle.bk_machine.specs.Claims.{CollectsOwn, Quiet, Rested}
-use Rattle.bk_machine.proofs.View.{only-head, mine-here}
+use Rattle.bk_machine.specs.Invariant.{TransactionAt, is_free}
+use Rattle.bk_machine.specs.World.{World, only, mine}
+use Rattle.bk_machine.specs.Claims.{Quiet, Rested}
+use Rattle.bk_machine.proofs.View.{mine-here}
 use Rattle.bk_machine.specs.Invariant.{EveryGroup}
-
--- an acknowledgement or an answer to a flush is of the group of the transaction
-
-open_responses : (p : Phase) (c : ℕ) (m : Response) (rest : List Response) → ((t : ℕ) → m ≢ CohAck t) → responses_of p c ≡ m ∷ rest → GrantedTransaction None → TransactionAt p None → ⊥
-open_responses p c m rest n e g t = grind (arith, nat_tests, n)
-
-group-of : {X : Type 0} (u s : ℕ) (x : X) → mine u (Some (s, x)) ≢ None → u ≡ s
-group-of u s x n = decide (eqb u s) refl
-  where
-    is : eqb u s ≡ true → u ≡ s
-    is e = grind (arith, nat_tests)
-
-    decide : (b : Bool) → eqb u s ≡ b → u ≡ s
-    decide true e = is e
-    decide false e = absurd (n (ap (λ (y : Bool). cond y (Some x) None) e))
-
-pub response-group : (w : World) → EveryGroup w → (s u c : ℕ) (x : Transaction) (m : Response) (rest : List (ℕ × Response)) → w.transaction ≡ Some (s, x) → ((t : ℕ) → m ≢ CohAck t) → w.response c ≡ (u, m) ∷ rest → u ≡ s
-response-group w all s u c x m rest is n e =
-    let good : Good (all u).0 (view u w) = (all u).1 in
-    group-of u s x (λ q. open_responses (all u).0 c m (only u rest) n (sym (good.responses c) ∙ only-head u (w.response c) rest m e) tt
-    (subst (λ (transaction : Option Transaction). TransactionAt (all u).0 transaction) (ap (mine u) is ∙ q) good.transaction))
-
-reading-some : (transaction : Option Transaction) (n m : ℕ) → n + suc m ≡ cond (is_reading transaction) 1 0 → transaction ≢ None
-reading-some transaction n m e = grind arith
-
-pub block-group : (w : World) → EveryGroup w → (s u : ℕ) (x : Transaction) (b : Block) (rest : List (ℕ × Block)) → w.transaction ≡ Some (s, x) → w.memin ≡ (u, b) ∷ rest → u ≡ s
-block-group w all s u x b rest is e =
-    let good : Good (all u).0 (view u w) = (all u).1 in
-    group-of u s x (λ q. reading-some (mine u w.transaction) (reads (only u w.memout)) (length (only u rest))
-    (subst (λ (bs : List Block). reads (only u w.memout) + length bs ≡ cond (is_reading (mine u w.transaction)) 1 0) (only-head u w.memin rest b e) good.channels.count) (ap (mine u) is ∙ q))
 
 -- of a phase with nothing on its way
 at_rest : (p : Phase) → ((c : ℕ) → commands_of p c ≡ []) → ((c o : ℕ) → fills_of p c o ≡ []) → ((c : ℕ) → responses_of p c ≡ []) → TransactionAt p None → p ≡ Free
@@ -86,9 +56,6 @@ of-every-group {X} (Some x) f = absurd (none (mine-here x.0 x.1) (f x.0))
   where
     none : mine x.0 (Some (x.0, x.1)) ≡ Some x.1 → mine x.0 (Some x) ≡ None → ⊥
     none a b = cc
-
-pub collects_own : (w : World) → EveryGroup w → CollectsOwn w
-collects_own w all = record { response = response-group w all; block = block-group w all }
 
 pub quiet_rests : (w : World) → EveryGroup w → Quiet w → Rested w
 quiet_rests w all q = record { not_pending = λ s. good_pending s; idle = λ c. of-every-group (w.busy c) (λ s. idle (mine s (w.busy c)) (sym (asked s c))) }
