@@ -70,14 +70,17 @@ module _ (g : Group) (r : ℕ) (b : InProgress) (rd : Reading) (wr : Bool) (inv 
     answers = good.answers;
   }
 
-pub word_good : (g : Group) (r w t k : ℕ) (ws : ℕ → ℕ) (wr : Bool) (inv : ℕ → Ack) → Good (Open r (record { op = UcLoad t k; way = w }) NoFlush inv) (record g { transaction = Some (open_transaction r (record { op = UcLoad t k; way = w }) Idle (Got ws) wr []) })
+pub word_good : (g : Group) (r w t k : ℕ) (ws : ℕ → ℕ) (wr : Bool) (inv : ℕ → Ack)
+    → Good (Open r (record { op = UcLoad t k; way = w }) NoFlush inv) (record g { transaction = Some (open_transaction r (record { op = UcLoad t k; way = w }) Idle (Got ws) wr []) })
     → Good (Flying r (record { op = UcLoad t k; way = w }) (ByWord (ws k))) (record g { command = put g.command r (g.command r ++ UcBlk t k (ws k) ∷ []); transaction = Some (granted_transaction r (record { op = UcLoad t k; way = w }) (Got ws) wr None None) })
 word_good g r w t k ws wr inv good =
     answer_good g r _ (Got ws) wr inv good refl (UcBlk t k (ws k)) (ByWord (ws k)) (λ c. refl) (λ c o. refl) (λ c v h. refl) refl tt (λ u j e. not_at (UcLoad t k) w u j (wr && true) refl)
     (good.values.held.read.0 k, λ c v l. light-writable _ (good.values.held.read.1 c v l))
 
 -- a word was written
-pub stored_good : (g : Group) (r w t k n : ℕ) (rd : Reading) (inv : ℕ → Ack) → Good (Open r (record { op = UcStore t k n; way = w }) NoFlush inv) (record g { transaction = Some (open_transaction r (record { op = UcStore t k n; way = w }) Idle rd true []) }) → is_asked rd ≡ false
+pub stored_good : (g : Group) (r w t k n : ℕ) (rd : Reading) (inv : ℕ → Ack)
+    → Good (Open r (record { op = UcStore t k n; way = w }) NoFlush inv) (record g { transaction = Some (open_transaction r (record { op = UcStore t k n; way = w }) Idle rd true []) })
+    → is_asked rd ≡ false
     → Good (Flying r (record { op = UcStore t k n; way = w }) ByDone) (record g { command = put g.command r (g.command r ++ UcDone t k ∷ []); transaction = Some (granted_transaction r (record { op = UcStore t k n; way = w }) rd true None None) })
 stored_good g r w t k n rd inv good e =
     answer_good g r _ rd true inv good e (UcDone t k) ByDone (λ c. refl) (λ c o. refl) (λ c v h. refl) refl tt (λ u j f. f) good.values.held.written
@@ -85,7 +88,9 @@ stored_good g r w t k n rd inv good e =
 and_right : (x : Bool) → (x && false) ≡ false
 and_right x = grind arith
 
-pub evicted_good : (g : Group) (r w t : ℕ) (rd : Reading) (wr : Bool) (inv : ℕ → Ack) → Good (Open r (record { op = Evict t; way = w }) NoFlush inv) (record g { transaction = Some (open_transaction r (record { op = Evict t; way = w }) Idle rd wr []) }) → is_asked rd ≡ false
+pub evicted_good : (g : Group) (r w t : ℕ) (rd : Reading) (wr : Bool) (inv : ℕ → Ack)
+    → Good (Open r (record { op = Evict t; way = w }) NoFlush inv) (record g { transaction = Some (open_transaction r (record { op = Evict t; way = w }) Idle rd wr []) })
+    → is_asked rd ≡ false
     → Good (Flying r (record { op = Evict t; way = w }) ByDone) (record g { command = put g.command r (g.command r ++ Done t ∷ []); transaction = Some (granted_transaction r (record { op = Evict t; way = w }) rd wr None None) })
 evicted_good g r w t rd wr inv good e =
     answer_good g r _ rd wr inv good e (Done t) ByDone (λ c. refl) (λ c o. refl) (λ c v h. refl) refl tt (λ u j f. and_right (wr && true)) tt
@@ -98,13 +103,15 @@ not_open (Open r b fl inv) x e q = absurd (cc (e, q.ungranted))
 not_open (Flying r b f) x e q = q
 not_open (Settling r t) x e q = q
 
-granted-at : (p : Phase) (transaction ty : Option Transaction) → GrantedTransaction transaction → TransactionAt p transaction → GrantedTransaction ty → (is_free p ≡ is_free p) → ((r : ℕ) (b : InProgress) (fl : Flush) (inv : ℕ → Ack) → p ≡ Open r b fl inv → ⊥) → TransactionAt p ty
+granted-at : (p : Phase) (transaction ty : Option Transaction) → GrantedTransaction transaction → TransactionAt p transaction → GrantedTransaction ty
+    → (is_free p ≡ is_free p) → ((r : ℕ) (b : InProgress) (fl : Flush) (inv : ℕ → Ack) → p ≡ Open r b fl inv → ⊥) → TransactionAt p ty
 granted-at Free transaction ty g q h e n = h
 granted-at (Open r b fl inv) transaction ty g q h e n = absurd (n r b fl inv refl)
 granted-at (Flying r b f) transaction ty g q h e n = h
 granted-at (Settling r t) transaction ty g q h e n = h
 
-pub phase-closed : (p : Phase) (x : Transaction) → x.granted ≡ true → TransactionAt p (Some x) → (r : ℕ) (b : InProgress) (fl : Flush) (inv : ℕ → Ack) → p ≡ Open r b fl inv → ⊥
+pub phase-closed : (p : Phase) (x : Transaction) → x.granted ≡ true → TransactionAt p (Some x) → (r : ℕ) (b : InProgress) (fl : Flush) (inv : ℕ → Ack)
+    → p ≡ Open r b fl inv → ⊥
 phase-closed Free x e q r b fl inv s = absurd (cc s)
 phase-closed (Open r' b' fl' inv') x e q r b fl inv s = absurd (cc (e, q.ungranted))
 phase-closed (Flying r' b' f) x e q r b fl inv s = absurd (cc s)
@@ -146,12 +153,14 @@ module _ (p : Phase) (g : Group) (x : Transaction) (ty : Option Transaction) (di
       not_reading None e = refl
       not_reading (Some x) e = rw e.0 refl
 
-pay-put : (g : Group) (d : Debt) (od : Option Debt) → DebtsApart (Some d) od → pay (Some d) (pay od g.directory) ≡ pay None (pay od (put2 g.directory d.cache d.way d.held))
+pay-put : (g : Group) (d : Debt) (od : Option Debt) → DebtsApart (Some d) od
+    → pay (Some d) (pay od g.directory) ≡ pay None (pay od (put2 g.directory d.cache d.way d.held))
 unfolding put2
 pay-put g d None n = fun_ext (λ c. fun_ext (λ w. refl))
 pay-put g d (Some e) n = fun_ext (λ c. fun_ext (λ w. commute c w))
   where
-    commute : (c w : ℕ) → cond (eqb c d.cache && eqb w d.way) d.held (cond (eqb c e.cache && eqb w e.way) e.held (g.directory c w)) ≡ cond (eqb c e.cache && eqb w e.way) e.held (cond (eqb c d.cache && eqb w d.way) d.held (g.directory c w))
+    commute : (c w : ℕ)
+        → cond (eqb c d.cache && eqb w d.way) d.held (cond (eqb c e.cache && eqb w e.way) e.held (g.directory c w)) ≡ cond (eqb c e.cache && eqb w e.way) e.held (cond (eqb c d.cache && eqb w d.way) d.held (g.directory c w))
     commute c w = grind (arith, nat_tests)
 
 pay-put_owner : (g : Group) (d : Debt) → pay (Some d) g.directory ≡ pay None (put2 g.directory d.cache d.way d.held)
@@ -170,15 +179,18 @@ module _ (p : Phase) (g : Group) (x : Transaction) (good : Good p g) (is : g.tra
   is_granted = not_open p x granted known.transaction
 
   -- the requester's debt is paid
-  pub own_paid : (d : Debt) → x.requester_debt ≡ Some d → Good p (record g { directory = put2 g.directory d.cache d.way d.held; transaction = Some (record x { requester_debt = None }) })
+  pub own_paid : (d : Debt) → x.requester_debt ≡ Some d
+      → Good p (record g { directory = put2 g.directory d.cache d.way d.held; transaction = Some (record x { requester_debt = None }) })
   own_paid d e = closes_good p g x (Some (record x { requester_debt = None })) (put2 g.directory d.cache d.way d.held) known granted (granted, tt, is_granted.2)
       (ap (λ (o : Option Debt). pay o (pay x.owner_debt g.directory)) e ∙ pay-put g d x.owner_debt (subst (λ (o : Option Debt). DebtsApart o x.owner_debt) e is_granted.1))
 
   -- the owner's debt is paid
-  pub owner_paid : (d : Debt) → x.owner_debt ≡ Some d → Good p (record g { directory = put2 g.directory d.cache d.way d.held; transaction = Some (record x { owner_debt = None }) })
+  pub owner_paid : (d : Debt) → x.owner_debt ≡ Some d
+      → Good p (record g { directory = put2 g.directory d.cache d.way d.held; transaction = Some (record x { owner_debt = None }) })
   owner_paid d e = closes_good p g x (Some (record x { owner_debt = None })) (put2 g.directory d.cache d.way d.held) known granted (granted, no-debt x.requester_debt, is_granted.2)
       (ap (λ (o : Option Debt). pay x.requester_debt (pay o g.directory)) e ∙ ap (pay x.requester_debt) (pay-put_owner g d))
 
   -- both debts are paid, and the transaction ends
   pub finished_good : x.requester_debt ≡ None → x.owner_debt ≡ None → Good p (record g { transaction = None })
-  finished_good e f = closes_good p g x None g.directory known granted tt (ap (λ (o : Option Debt). pay o (pay x.owner_debt g.directory)) e ∙ ap (λ (o : Option Debt). pay None (pay o g.directory)) f)
+  finished_good e f =
+      closes_good p g x None g.directory known granted tt (ap (λ (o : Option Debt). pay o (pay x.owner_debt g.directory)) e ∙ ap (λ (o : Option Debt). pay None (pay o g.directory)) f)

@@ -57,18 +57,22 @@ module _ (g : Group) (c t w : ℕ) (op : Op) (x : Coh) (f : Flight)
   unfolding put2
   arrive-loaded m i v = m i v
 
-  arrive-stored : ((i v : ℕ) → Matches (paid g.transaction g.directory i v) (cond (eqb i c && eqb v w) (record { tag = t; state = x }) (g.held i v))) → is_writable x ≡ true
+  arrive-stored : ((i v : ℕ) → Matches (paid g.transaction g.directory i v) (cond (eqb i c && eqb v w) (record { tag = t; state = x }) (g.held i v)))
+      → is_writable x ≡ true
       → (i v : ℕ) → Matches (paid g.transaction g.directory i v) (put2 g.held c w (record { tag = t; state = M }) i v)
   unfolding put2
   arrive-stored m e i v = grind (arith, nat_tests, m i v)
 
   pub loaded-copies : ((i v : ℕ) → Matches (paid g.transaction g.directory i v) (cond (eqb i c && eqb v w) (record { tag = t; state = x }) (g.held i v)))
       → Copies (Settling c t) (paid g.transaction g.directory) (put2 g.held c w (record { tag = t; state = x }))
-  loaded-copies m = settled-copies (Settling c t) (paid g.transaction g.directory) _ (arrive-loaded m) (arrive-loaded m) good.copies.one_way good.copies.alone good.copies.one_owner tt
+  loaded-copies m =
+      settled-copies (Settling c t) (paid g.transaction g.directory) _ (arrive-loaded m) (arrive-loaded m) good.copies.one_way good.copies.alone good.copies.one_owner tt
 
-  pub stored-copies : ((i v : ℕ) → Matches (paid g.transaction g.directory i v) (cond (eqb i c && eqb v w) (record { tag = t; state = x }) (g.held i v))) → is_writable x ≡ true
+  pub stored-copies : ((i v : ℕ) → Matches (paid g.transaction g.directory i v) (cond (eqb i c && eqb v w) (record { tag = t; state = x }) (g.held i v)))
+      → is_writable x ≡ true
       → Copies (Settling c t) (paid g.transaction g.directory) (put2 g.held c w (record { tag = t; state = M }))
-  stored-copies m e = settled-copies (Settling c t) (paid g.transaction g.directory) _ (arrive-stored m e) (arrive-stored m e) good.copies.one_way good.copies.alone good.copies.one_owner tt
+  stored-copies m e =
+      settled-copies (Settling c t) (paid g.transaction g.directory) _ (arrive-stored m e) (arrive-stored m e) good.copies.one_way good.copies.alone good.copies.one_owner tt
 
 module _ (g : Group) (c t w k : ℕ) (x : Coh) (ws : ℕ → ℕ) (f : Flight)
     (good : Good (Flying c (record { op = Load t k; way = w }) f) g)
@@ -82,17 +86,20 @@ module _ (g : Group) (c t w k : ℕ) (x : Coh) (ws : ℕ → ℕ) (f : Flight)
   unfolding put2
   loaded-words u i v j l = grind (arith, nat_tests, good.values.copies u i v j, same j)
 
-  loaded-clean : (u : ℕ) → ((i v : ℕ) → Holds (put2 g.held c w (record { tag = t; state = x }) i v) u → is_dirty (put2 g.held c w (record { tag = t; state = x }) i v).state ≡ false)
+  loaded-clean : (u : ℕ)
+      → ((i v : ℕ) → Holds (put2 g.held c w (record { tag = t; state = x }) i v) u → is_dirty (put2 g.held c w (record { tag = t; state = x }) i v).state ≡ false)
       → (i v : ℕ) → Holds (g.held i v) u → is_dirty (g.held i v).state ≡ false
   unfolding put2
   loaded-clean u home i v l = grind (arith, nat_tests, home i v, old_clean u)
 
-  loaded-here : (u : ℕ) → is_readable x ≡ true → ((i v : ℕ) → Holds (put2 g.held c w (record { tag = t; state = x }) i v) u → is_dirty (put2 g.held c w (record { tag = t; state = x }) i v).state ≡ false)
+  loaded-here : (u : ℕ) → is_readable x ≡ true
+      → ((i v : ℕ) → Holds (put2 g.held c w (record { tag = t; state = x }) i v) u → is_dirty (put2 g.held c w (record { tag = t; state = x }) i v).state ≡ false)
       → u ≡ t → is_dirty x ≡ false
   unfolding put2
   loaded-here u y home e = grind (arith, nat_tests, home c w)
 
-  pub loaded-values : is_readable x ≡ true → Values (Settling c t) g.transaction (put2 g.held c w (record { tag = t; state = x })) (put2 g.words c w ws) (latest g.history) (effective g.memory g.memout)
+  pub loaded-values : is_readable x ≡ true
+      → Values (Settling c t) g.transaction (put2 g.held c w (record { tag = t; state = x })) (put2 g.words c w ws) (latest g.history) (effective g.memory g.memout)
   loaded-values y = record {
     copies = loaded-words;
     memory = λ u j home. good.values.memory u j (record {
@@ -117,21 +124,25 @@ module _ (g : Group) (c t w k n : ℕ) (ws : ℕ → ℕ) (f : Flight)
   pub stored-latest : latest (g.history ++ record { cache = c; op = Store t k n; answer = 0 } ∷ []) ≡ after_op (Store t k n) (latest g.history)
   stored-latest = values-append _ g.history _
 
-  stored-words : (u i v j : ℕ) → Holds (put2 g.held c w (record { tag = t; state = M }) i v) u → put2 g.words c w (put ws k n) i v j ≡ after_op (Store t k n) (latest g.history) u j
+  stored-words : (u i v j : ℕ) → Holds (put2 g.held c w (record { tag = t; state = M }) i v) u
+      → put2 g.words c w (put ws k n) i v j ≡ after_op (Store t k n) (latest g.history) u j
   unfolding put2 put
   stored-words u i v j l = grind (arith, nat_tests, good.values.copies u i v j, same j, alone i v, one_way t i v w)
 
-  stored-clean : (u : ℕ) → u ≢ t → ((i v : ℕ) → Holds (put2 g.held c w (record { tag = t; state = M }) i v) u → is_dirty (put2 g.held c w (record { tag = t; state = M }) i v).state ≡ false)
+  stored-clean : (u : ℕ) → u ≢ t
+      → ((i v : ℕ) → Holds (put2 g.held c w (record { tag = t; state = M }) i v) u → is_dirty (put2 g.held c w (record { tag = t; state = M }) i v).state ≡ false)
       → (i v : ℕ) → Holds (g.held i v) u → is_dirty (g.held i v).state ≡ false
   unfolding put2
   stored-clean u d home i v l = grind (arith, nat_tests, home i v, old_clean u)
 
-  stored-elsewhere : (u : ℕ) → ((i v : ℕ) → Holds (put2 g.held c w (record { tag = t; state = M }) i v) u → is_dirty (put2 g.held c w (record { tag = t; state = M }) i v).state ≡ false)
+  stored-elsewhere : (u : ℕ)
+      → ((i v : ℕ) → Holds (put2 g.held c w (record { tag = t; state = M }) i v) u → is_dirty (put2 g.held c w (record { tag = t; state = M }) i v).state ≡ false)
       → u ≢ t
   unfolding put2
   stored-elsewhere u home = grind (arith, nat_tests, home c w)
 
-  stored-memory : (u j : ℕ) → u ≢ t → effective g.memory g.memout u j ≡ latest g.history u j → effective g.memory g.memout u j ≡ after_op (Store t k n) (latest g.history) u j
+  stored-memory : (u j : ℕ) → u ≢ t → effective g.memory g.memout u j ≡ latest g.history u j
+      → effective g.memory g.memout u j ≡ after_op (Store t k n) (latest g.history) u j
   stored-memory u j d e = grind (arith, nat_tests)
 
   pub stored-values : Values (Settling c t) g.transaction (put2 g.held c w (record { tag = t; state = M })) (put2 g.words c w (put ws k n)) (after_op (Store t k n) (latest g.history)) (effective g.memory g.memout)

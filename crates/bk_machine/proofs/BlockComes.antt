@@ -41,7 +41,8 @@ module _ (g : Group) (c o : ℕ) (b : InProgress) (x : Coh) (ws : ℕ → ℕ) (
   unfolding put2
   fill-fills t i j = grind (arith, nat_tests, good.fills i j)
 
-pub block_loaded : (g : Group) (c t w k : ℕ) (x : Coh) (ws : ℕ → ℕ) (rest : List ToCache) → Good (Flying c (record { op = Load t k; way = w }) (ByBlock x ws)) g → rest ≡ []
+pub block_loaded : (g : Group) (c t w k : ℕ) (x : Coh) (ws : ℕ → ℕ) (rest : List ToCache) → Good (Flying c (record { op = Load t k; way = w }) (ByBlock x ws)) g
+    → rest ≡ []
     → Good (Settling c t) (take_command (loaded g c t w x ws k) c rest)
 block_loaded g c t w k x ws rest good last = record {
   commands = block-commands g c _ x ws rest good last t;
@@ -82,7 +83,8 @@ module _ (g : Group) (c t w k : ℕ) (n : ℕ) (ws : ℕ → ℕ) (x : Coh) (f :
   pub one_way : OneWay (put2 g.held c w (record { tag = t; state = M }))
   one_way = copies.real_way
 
-pub block_stored : (g : Group) (c t w k n : ℕ) (x : Coh) (ws : ℕ → ℕ) (rest : List ToCache) → Good (Flying c (record { op = Store t k n; way = w }) (ByBlock x ws)) g → is_writable x ≡ true → rest ≡ []
+pub block_stored : (g : Group) (c t w k n : ℕ) (x : Coh) (ws : ℕ → ℕ) (rest : List ToCache)
+    → Good (Flying c (record { op = Store t k n; way = w }) (ByBlock x ws)) g → is_writable x ≡ true → rest ≡ []
     → Good (Settling c t) (take_command (stored g c t w ws k n) c rest)
 block_stored g c t w k n x ws rest good writes last = record {
   commands = block-commands g c _ x ws rest good last t;
@@ -131,7 +133,8 @@ fill_flies x t u e = grind (arith, nat_tests)
 fill_elsewhere : (x : Coh) (t : ℕ) (u : ℕ) → u ≢ t → (is_dirty x && eqb u t) ≡ false
 fill_elsewhere x t u e = grind (arith, nat_tests)
 
-pub fill_loaded : (g : Group) (c o t w k : ℕ) (x : Coh) (ws : ℕ → ℕ) (rest : List FillMessage) → Good (Flying c (record { op = Load t k; way = w }) (ByFill o x ws)) g → rest ≡ []
+pub fill_loaded : (g : Group) (c o t w k : ℕ) (x : Coh) (ws : ℕ → ℕ) (rest : List FillMessage)
+    → Good (Flying c (record { op = Load t k; way = w }) (ByFill o x ws)) g → rest ≡ []
     → Good (Settling c t) (take_fill (loaded g c t w x ws k) c o rest)
 fill_loaded g c o t w k x ws rest good last = record {
   commands = good.commands;
@@ -151,7 +154,8 @@ fill_loaded g c o t w k x ws rest good last = record {
   answers = loaded-answers g c t w k x ws _ good good.values.flying (λ u l. light-dirty _ good.copies.standing.light) (λ u j e. fill_flies x t u e);
 }
 
-pub fill_stored : (g : Group) (c o t w k n : ℕ) (x : Coh) (ws : ℕ → ℕ) (rest : List FillMessage) → Good (Flying c (record { op = Store t k n; way = w }) (ByFill o x ws)) g → is_writable x ≡ true → rest ≡ []
+pub fill_stored : (g : Group) (c o t w k n : ℕ) (x : Coh) (ws : ℕ → ℕ) (rest : List FillMessage)
+    → Good (Flying c (record { op = Store t k n; way = w }) (ByFill o x ws)) g → is_writable x ≡ true → rest ≡ []
     → Good (Settling c t) (take_fill (stored g c t w ws k n) c o rest)
 fill_stored g c o t w k n x ws rest good writes last = record {
   commands = good.commands;

@@ -119,7 +119,8 @@ module _ (k : Shape) (w : World) (inv : Invariant k w) (s : ℕ) (x : Transactio
   invalidating = (subst (λ (p : Phase). Standing p (paid (view s w).transaction (w.directory s)) (w.held s)) at.is (inv.groups s).1.copies.standing).1
 
   requester-range : InRange k at.cache at.busy.way
-  requester-range = inv.ranges.busy at.cache (s, at.busy) (mine-back s (w.busy at.cache) at.busy (subst (λ (p : Phase). Taker p (view s w).busy) at.is (inv.groups s).1.taker))
+  requester-range =
+      inv.ranges.busy at.cache (s, at.busy) (mine-back s (w.busy at.cache) at.busy (subst (λ (p : Phase). Taker p (view s w).busy) at.is (inv.groups s).1.taker))
 
   pub waits-once : (c : ℕ) → times c x.waiting ≤ 1
   waits-once c = due-one (at.acks c) (times c x.waiting) (at.at.acks c)

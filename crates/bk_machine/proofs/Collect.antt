@@ -41,7 +41,8 @@ module _ (g : Group) (r c : ℕ) (b : InProgress) (wb : WriteBack) (rd : Reading
   unfolding put
   ack-responses i = grind (arith, nat_tests, good.responses i)
 
-  ack-due : (i : ℕ) → times i (remove_one c ws) + cond (eqb i c) 1 0 ≡ times i ws → times i ws ≡ due (inv i) → times i (remove_one c ws) ≡ due (put inv c NoInv i)
+  ack-due : (i : ℕ) → times i (remove_one c ws) + cond (eqb i c) 1 0 ≡ times i ws → times i ws ≡ due (inv i)
+      → times i (remove_one c ws) ≡ due (put inv c NoInv i)
   unfolding put
   ack-due i e f = grind (arith, nat_tests)
 
@@ -51,7 +52,8 @@ module _ (g : Group) (r c : ℕ) (b : InProgress) (wb : WriteBack) (rd : Reading
       lem : (a : Ack) → a ≡ InvAcked → times c ws ≡ due a → 0 < times c ws
       lem a e f = grind arith
 
-  ack-matches : (i v : ℕ) → Matches (g.directory i v) (expected (Open r b fl inv) i v (g.held i v)) → Matches (g.directory i v) (expected (Open r b fl (put inv c NoInv)) i v (g.held i v))
+  ack-matches : (i v : ℕ) → Matches (g.directory i v) (expected (Open r b fl inv) i v (g.held i v))
+      → Matches (g.directory i v) (expected (Open r b fl (put inv c NoInv)) i v (g.held i v))
   unfolding put
   ack-matches i v m = grind (arith, nat_tests)
 
@@ -127,7 +129,8 @@ module _ (g : Group) (r c t : ℕ) (b : InProgress) (wb : WriteBack) (rd : Readi
   back-values None q = tt
   back-values (Some x) q = q
 
-  back-apart : (words : Option (ℕ → ℕ)) → (wr ≡ true → eqb (request_tag (request_of b.op b.way)) t ≡ false) → wr ≡ true → kept_away (brought t words) (request_tag (request_of b.op b.way)) ≡ false
+  back-apart : (words : Option (ℕ → ℕ)) → (wr ≡ true → eqb (request_tag (request_of b.op b.way)) t ≡ false) → wr ≡ true
+      → kept_away (brought t words) (request_tag (request_of b.op b.way)) ≡ false
   back-apart None f e = refl
   back-apart (Some x) f e = f e
 

@@ -13,7 +13,8 @@ use Rattle.bk_machine.proofs.View.{only-head}
 use Rattle.bk_machine.proofs.Foreign.{mine-back}
 
 -- the transaction of a group at an open phase
-at-open : (r : ℕ) (b : InProgress) (fl : Flush) (inv : ℕ → Ack) (o : Option Transaction) → TransactionAt (Open r b fl inv) o → (x : Transaction) × (o ≡ Some x) × OpenTransaction r b fl inv x
+at-open : (r : ℕ) (b : InProgress) (fl : Flush) (inv : ℕ → Ack) (o : Option Transaction) → TransactionAt (Open r b fl inv) o
+    → (x : Transaction) × (o ≡ Some x) × OpenTransaction r b fl inv x
 at-open r b fl inv None t = absurd t
 at-open r b fl inv (Some x) t = (x, refl, t)
 
@@ -40,7 +41,8 @@ asked-if fl Idle c t words e s = absurd (subst (λ (f : Flush). flush_state f Id
 asked-if fl Asked c t words e s = refl
 asked-if fl (Kept b) c t words e s = absurd (subst (λ (f : Flush). flush_state f (Kept b)) e s)
 
-answer-phase : (p : Phase) (c t : ℕ) (words : Option (ℕ → ℕ)) (rest : List Response) (o : Option Transaction) → responses_of p c ≡ answer_of t words ∷ rest → TransactionAt p o
+answer-phase : (p : Phase) (c t : ℕ) (words : Option (ℕ → ℕ)) (rest : List Response) (o : Option Transaction) → responses_of p c ≡ answer_of t words ∷ rest
+    → TransactionAt p o
     → (x : Transaction) × (o ≡ Some x) × (x.granted ≡ false) × (x.write_back ≡ Asked)
 answer-phase Free c t words rest o e a = absurd (none e)
   where
@@ -48,7 +50,8 @@ answer-phase Free c t words rest o e a = absurd (none e)
     none e = cc
 answer-phase (Open r b fl inv) c t words rest o e a = at (at-open r b fl inv o a)
   where
-    done : (fl : Flush) (y : Ack) (words : Option (ℕ → ℕ)) → flush_response fl c ++ inv_response (op_tag b.op) y ≡ answer_of t words ∷ rest → (u : ℕ) × (v : Option (ℕ → ℕ)) × (fl ≡ FlushDone c u v)
+    done : (fl : Flush) (y : Ack) (words : Option (ℕ → ℕ)) → flush_response fl c ++ inv_response (op_tag b.op) y ≡ answer_of t words ∷ rest
+        → (u : ℕ) × (v : Option (ℕ → ℕ)) × (fl ≡ FlushDone c u v)
     done NoFlush y words e = absurd (none y words e)
       where
         none : (y : Ack) (words : Option (ℕ → ℕ)) → inv_response (op_tag b.op) y ≡ answer_of t words ∷ rest → ⊥
@@ -79,7 +82,8 @@ answer-phase (Settling r u) c t words rest o e a = absurd (none words e)
 is-read : (x : Reading) → is_asked x ≡ true → x ≡ ReadAsked
 is-read x e = grind arith
 
-reading-some : (o : Option Transaction) (n m : ℕ) → n + suc m ≡ cond (is_reading o) 1 0 → (x : Transaction) × (o ≡ Some x) × (x.granted ≡ false) × (x.reading ≡ ReadAsked)
+reading-some : (o : Option Transaction) (n m : ℕ) → n + suc m ≡ cond (is_reading o) 1 0
+    → (x : Transaction) × (o ≡ Some x) × (x.granted ≡ false) × (x.reading ≡ ReadAsked)
 reading-some None n m e = absurd (none n m e)
   where
     none : (n m : ℕ) → ◌≡◌ {A = ℕ} (n + suc m) 0 → ⊥

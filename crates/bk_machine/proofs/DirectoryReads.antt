@@ -120,7 +120,8 @@ module _ (k : Shape) (d : ℕ → ℕ → Entry) (good : Readable k d) (r t : �
       lem None f = light-if (d c v).state (none-owner-like f c v n h)
       lem (Some o) f = at (owner-some k.caches k.ways d r t o f)
         where
-          at : (o ≢ r) × ((u : ℕ) × (owner_way k.ways d t o ≡ Some u) × (Holds (d o u) t) × (is_owner_like (d o u).state ≡ true)) → is_light (d c v).state ≡ true
+          at : (o ≢ r) × ((u : ℕ) × (owner_way k.ways d t o ≡ Some u) × (Holds (d o u) t) × (is_owner_like (d o u).state ≡ true))
+              → is_light (d c v).state ≡ true
           at (m, (u, g, i, l)) = decide (is_owner_like (d c v).state) refl
             where
               forward : (x : Coh) → x ≡ F → is_light x ≡ true
@@ -170,7 +171,8 @@ module _ (k : Shape) (d : ℕ → ℕ → Entry) (good : Readable k d) (r t : �
   owner-alone o v is f c u n m h = no-others f c u n h (good.one_owner t o v c u is.holds h (λ q. m (sym q)) is.owner_like)
 
   -- the state that a block is granted in leaves the other caches' states
-  pub block-fits : (y : Coh) → BlockSuits y (owner_state k.caches k.ways d r t) (others k.caches k.ways d r t) → (c v : ℕ) → c ≢ r → Holds (d c v) t → fits y (d c v).state ≡ true
+  pub block-fits : (y : Coh) → BlockSuits y (owner_state k.caches k.ways d r t) (others k.caches k.ways d r t) → (c v : ℕ) → c ≢ r → Holds (d c v) t
+      → fits y (d c v).state ≡ true
   block-fits I b c v n h = absurd b
   block-fits S b c v n h = lem (d c v).state h.is_valid (others-light b c v n h)
     where
@@ -206,7 +208,8 @@ module _ (k : Shape) (d : ℕ → ℕ → Entry) (good : Readable k d) (r t : �
       os : List ℕ
       os = others k.caches k.ways d r t
 
-      at : (o ≢ r) × ((u : ℕ) × (owner_way k.ways d t o ≡ Some u) × (Holds (d o u) t) × (is_owner_like (d o u).state ≡ true)) → Recipients (o ∷ others k.caches k.ways d r t)
+      at : (o ≢ r) × ((u : ℕ) × (owner_way k.ways d t o ≡ Some u) × (Holds (d o u) t) × (is_owner_like (d o u).state ≡ true))
+          → Recipients (o ∷ others k.caches k.ways d r t)
       at (n, (u, g, h, l)) = record {
         not_own = sum0 (times r (others k.caches k.ways d r t)) others-recipients.not_own;
         once = λ c. sum1 c (λ q. subst (λ (i : ℕ). times i (others k.caches k.ways d r t) ≡ 0) (same-eq c o q) z) (others-recipients.once c);
@@ -217,7 +220,8 @@ module _ (k : Shape) (d : ℕ → ℕ → Entry) (good : Readable k d) (r t : �
           sum0 : (m : ℕ) → m ≡ 0 → cond (eqb r o) 1 0 + m ≡ 0
           sum0 m e = grind (arith, nat_tests)
 
-          sum1 : (c : ℕ) → (eqb c o ≡ true → times c (others k.caches k.ways d r t) ≡ 0) → times c (others k.caches k.ways d r t) ≤ 1 → cond (eqb c o) 1 0 + times c (others k.caches k.ways d r t) ≤ 1
+          sum1 : (c : ℕ) → (eqb c o ≡ true → times c (others k.caches k.ways d r t) ≡ 0) → times c (others k.caches k.ways d r t) ≤ 1
+              → cond (eqb c o) 1 0 + times c (others k.caches k.ways d r t) ≤ 1
           sum1 c a b = two (eqb c o) (times c (others k.caches k.ways d r t)) a b
             where
               two : (x : Bool) (m : ℕ) → (x ≡ true → m ≡ 0) → m ≤ 1 → cond x 1 0 + m ≤ 1
@@ -237,7 +241,8 @@ module _ (k : Shape) (d : ℕ → ℕ → Entry) (good : Readable k d) (r t : �
               zero-one : ◌≡◌ {A = ℕ} 0 1 → ⊥
               zero-one e = grind arith
 
-  pub recipients : (f : Bool) → (f ≡ true → NoneOrForward (owner_state k.caches k.ways d r t)) → Recipients (sent_to f (owner k.caches k.ways d r t) (others k.caches k.ways d r t))
+  pub recipients : (f : Bool) → (f ≡ true → NoneOrForward (owner_state k.caches k.ways d r t))
+      → Recipients (sent_to f (owner k.caches k.ways d r t) (others k.caches k.ways d r t))
   recipients false g = others-recipients
   recipients true g = by (owner k.caches k.ways d r t) refl
     where
@@ -248,7 +253,8 @@ module _ (k : Shape) (d : ℕ → ℕ → Entry) (good : Readable k d) (r t : �
           is0 : eqb (times o (others k.caches k.ways d r t)) 0 ≡ true → times o (others k.caches k.ways d r t) ≡ 0
           is0 q = grind (arith, nat_tests)
 
-          among : (x : Bool) → eqb (times o (others k.caches k.ways d r t)) 0 ≡ x → Recipients (cond x (o ∷ others k.caches k.ways d r t) (others k.caches k.ways d r t))
+          among : (x : Bool) → eqb (times o (others k.caches k.ways d r t)) 0 ≡ x
+              → Recipients (cond x (o ∷ others k.caches k.ways d r t) (others k.caches k.ways d r t))
           among true q = with-owner o e (g refl) (is0 q)
           among false q = others-recipients
 

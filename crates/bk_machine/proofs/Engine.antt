@@ -34,7 +34,8 @@ module _ (g : Group) (r : ℕ) (b : InProgress) (block : Block) (rd : Reading) (
       lem (FlushSent o w t x) s = absurd s
       lem (FlushDone o t ws) s = absurd s
 
-  back-memory : (u k : ℕ) → AtHome (Open r b fl inv) (Some (open_transaction r b Idle rd wr ws)) g.held u k → write_block (effective g.memory g.memout) block.tag block.words u k ≡ latest g.history u k
+  back-memory : (u k : ℕ) → AtHome (Open r b fl inv) (Some (open_transaction r b Idle rd wr ws)) g.held u k
+      → write_block (effective g.memory g.memout) block.tag block.words u k ≡ latest g.history u k
   back-memory u k home = lem (eqb u block.tag) refl
     where
       tag_is : eqb u block.tag ≡ true → u ≡ block.tag
@@ -47,7 +48,8 @@ module _ (g : Group) (r : ℕ) (b : InProgress) (block : Block) (rd : Reading) (
       lem true e = good.values.held.kept.0 k ∙ ap (λ (t : ℕ). latest g.history t k) (sym (tag_is e))
       lem false e = good.values.memory u k (record { clean = home.clean; not_flying = home.not_flying; not_kept = join _ _ e home.not_kept })
 
-  back-written : (wr : Bool) (rq : Request) → (wr ≡ true → eqb (request_tag rq) block.tag ≡ false) → WrittenValues wr rq g.held (effective g.memory g.memout) → WrittenValues wr rq g.held (write_block (effective g.memory g.memout) block.tag block.words)
+  back-written : (wr : Bool) (rq : Request) → (wr ≡ true → eqb (request_tag rq) block.tag ≡ false) → WrittenValues wr rq g.held (effective g.memory g.memout)
+      → WrittenValues wr rq g.held (write_block (effective g.memory g.memout) block.tag block.words)
   back-written false rq f q = tt
   back-written true (Rd t w) f q = q
   back-written true (Wr t w) f q = q
@@ -103,7 +105,8 @@ module _ (g : Group) (r : ℕ) (b : InProgress) (wr : Bool) (ws : List ℕ) (inv
   read-light-op : AllLight g.held (op_tag b.op)
   read-light-op c w k = lem (inv c) (good.copies.matches c w) (light c w) (λ e. good.copies.standing.1.clean c w e k)
     where
-      lem : (a : Ack) → Matches (g.directory c w) (inv_effect (op_tag b.op) a (g.held c w)) → (Holds (g.directory c w) (op_tag b.op) → is_light (g.directory c w).state ≡ true) → (a ≡ InvSent → is_light (g.held c w).state ≡ true)
+      lem : (a : Ack) → Matches (g.directory c w) (inv_effect (op_tag b.op) a (g.held c w))
+          → (Holds (g.directory c w) (op_tag b.op) → is_light (g.directory c w).state ≡ true) → (a ≡ InvSent → is_light (g.held c w).state ≡ true)
           → is_light (g.held c w).state ≡ true
       lem NoInv m l f = grind arith
       lem InvSent m l f = f refl
@@ -157,7 +160,8 @@ module _ (g : Group) (r w t k n : ℕ) (inv : ℕ → Ack)
       lem : inv c ≡ NoInv → Matches (g.directory c v) (inv_effect t (inv c) (g.held c v)) → (Holds (g.directory c v) t → ⊥) → ⊥
       lem e m f = grind arith
 
-  word-memory : (u j : ℕ) → (eqb u t && eqb j k) ≡ false → effective g.memory g.memout u j ≡ latest g.history u j → write_word (effective g.memory g.memout) t k n u j ≡ latest g.history u j
+  word-memory : (u j : ℕ) → (eqb u t && eqb j k) ≡ false → effective g.memory g.memout u j ≡ latest g.history u j
+      → write_word (effective g.memory g.memout) t k n u j ≡ latest g.history u j
   word-memory u j e f = grind (arith, nat_tests)
 
   word-here : write_word (effective g.memory g.memout) t k n t k ≡ n

@@ -23,7 +23,8 @@ written-none true (UcLoad t k) w h a e q = absurd q
 written-none true (UcStore t k n) w h a e q = q.1
 written-none true (Evict t) w h a e q = absurd q
 
-OneOwner-weaker : (c w : ℕ) (x : Coh) (d : ℕ → ℕ → Entry) → is_owner_like x ≡ false → is_readable (d c w).state ≡ true → OneOwner d → OneOwner (put2 d c w (with_state (d c w) x))
+OneOwner-weaker : (c w : ℕ) (x : Coh) (d : ℕ → ℕ → Entry) → is_owner_like x ≡ false → is_readable (d c w).state ≡ true → OneOwner d
+    → OneOwner (put2 d c w (with_state (d c w) x))
 unfolding put2
 OneOwner-weaker c w x d e l one u i v o y k k2 n f = grind (arith, nat_tests, one u i v o y)
 
@@ -54,7 +55,8 @@ module _ (g : Group) (r o ow u : ℕ) (x : Coh) (b : InProgress) (rd : Reading) 
           → cond (eqb c o) (g.command o ++ StWb u x ∷ []) (g.command c) ≡ flush_command (FlushSent o ow u x) c ++ inv_command (op_tag b.op) (inv c)
       lem e f q = grind (arith, nat_tests)
 
-  flush-matches : (c w : ℕ) → Matches (put2 g.directory o ow (with_state (g.directory o ow) x) c w) (expected (Open r b (FlushSent o ow u x) inv) c w (g.held c w))
+  flush-matches : (c w : ℕ)
+      → Matches (put2 g.directory o ow (with_state (g.directory o ow) x) c w) (expected (Open r b (FlushSent o ow u x) inv) c w (g.held c w))
   unfolding put2
   flush-matches c w = lem (good.copies.matches c w) quiet
     where

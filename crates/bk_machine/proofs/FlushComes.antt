@@ -62,15 +62,18 @@ module _ (g : Group) (r c w t : ℕ) (x : Coh) (b : InProgress) (inv : ℕ → A
   unfolding put2
   flush-going a = record { not_own = a.not_own; gone = a.gone; clean = λ i v e k. grind (arith, nat_tests, a.clean i v); behind = λ i e. refl }
 
-  flush-clean : (u k : ℕ) → AtHome after g.transaction (put2 g.held c w (with_state (g.held c w) x)) u k → (i v : ℕ) → Holds (g.held i v) u → is_dirty (g.held i v).state ≡ false
+  flush-clean : (u k : ℕ) → AtHome after g.transaction (put2 g.held c w (with_state (g.held c w) x)) u k → (i v : ℕ) → Holds (g.held i v) u
+      → is_dirty (g.held i v).state ≡ false
   unfolding put2
   flush-clean u k home i v l = grind (arith, nat_tests, good.copies.standing.0.0, home.clean i v)
 
   flush-writers : is_dirty (g.held c w).state ≡ true → NoWriter (put2 g.held c w (with_state (g.held c w) x)) t
   unfolding put2
-  flush-writers e i v k = grind (arith, nat_tests, good.copies.standing.0.0, good.copies.standing.0.1, good.copies.real_way t c w v, good.copies.real_alone t i v c w)
+  flush-writers e i v k =
+      grind (arith, nat_tests, good.copies.standing.0.0, good.copies.standing.0.1, good.copies.real_way t c w v, good.copies.real_alone t i v c w)
 
-  flush-values : (y : Bool) → is_dirty (g.held c w).state ≡ y → FlushValues (FlushDone c t (cond y (Some (g.words c w)) None)) (put2 g.held c w (with_state (g.held c w) x)) (latest g.history)
+  flush-values : (y : Bool) → is_dirty (g.held c w).state ≡ y
+      → FlushValues (FlushDone c t (cond y (Some (g.words c w)) None)) (put2 g.held c w (with_state (g.held c w) x)) (latest g.history)
   flush-values true e = ((λ k. good.values.copies t c w k good.copies.standing.0.0), flush-writers e)
   flush-values false e = tt
 

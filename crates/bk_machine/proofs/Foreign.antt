@@ -22,7 +22,8 @@ use Rattle.bk_machine.proofs.Summary.{not_found}
 
 -- what a head says of the phase
 
-stwb_aims : (p : Phase) (d h : ℕ → ℕ → Entry) (c t : ℕ) (x : Coh) (rest : List ToCache) → commands_of p c ≡ StWb t x ∷ rest → Standing p d h → (v : ℕ) × Holds (h c v) t
+stwb_aims : (p : Phase) (d h : ℕ → ℕ → Entry) (c t : ℕ) (x : Coh) (rest : List ToCache) → commands_of p c ≡ StWb t x ∷ rest → Standing p d h
+    → (v : ℕ) × Holds (h c v) t
 stwb_aims Free d h c t x rest e s = absurd (cc e)
 stwb_aims (Open r b NoFlush inv) d h c t x rest e s = absurd (none (inv c) e)
   where
@@ -42,7 +43,8 @@ stwb_aims (Flying r b f) d h c t x rest e s = absurd (none f r b e)
     none f r b e = grind arith
 stwb_aims (Settling r u) d h c t x rest e s = absurd (cc e)
 
-sttr_aims : (p : Phase) (d h : ℕ → ℕ → Entry) (c t : ℕ) (y : Coh) (peer pv : ℕ) (x : Coh) (rest : List ToCache) → commands_of p c ≡ StTr t y peer pv x ∷ rest → Standing p d h → (v : ℕ) × (Holds (h c v) t) × (peer ≢ c)
+sttr_aims : (p : Phase) (d h : ℕ → ℕ → Entry) (c t : ℕ) (y : Coh) (peer pv : ℕ) (x : Coh) (rest : List ToCache) → commands_of p c ≡ StTr t y peer pv x ∷ rest
+    → Standing p d h → (v : ℕ) × (Holds (h c v) t) × (peer ≢ c)
 sttr_aims Free d h c t y peer pv x rest e s = absurd (cc e)
 sttr_aims (Open r b fl inv) d h c t y peer pv x rest e s = absurd (none fl (inv c) e)
   where
@@ -122,7 +124,8 @@ mine-back {X} s (Some x) y e = decide (eqb s x.0) refl e
     decide true q e = ap (λ (i : ℕ). Some (i, x.1)) (is q) ∙ ap (λ (z : X). Some (s, z)) (same e)
     decide false q e = absurd (cc e)
 
-acts-busy : (s : ℕ) (o : Option (ℕ × InProgress)) (b : InProgress) (f : InProgress → Option (ℕ × Step)) → o ≡ Some (s, b) → has_step (f b) ≡ true → has_step (for_busy s o f) ≡ true
+acts-busy : (s : ℕ) (o : Option (ℕ × InProgress)) (b : InProgress) (f : InProgress → Option (ℕ × Step)) → o ≡ Some (s, b) → has_step (f b) ≡ true
+    → has_step (for_busy s o f) ≡ true
 acts-busy s o b f e k = ap (λ (q : Option (ℕ × InProgress)). has_step (for_busy s q f)) e ∙ lem (eqb s s) (same s)
   where
     same : (s : ℕ) → eqb s s ≡ true
@@ -132,14 +135,16 @@ acts-busy s o b f e k = ap (λ (q : Option (ℕ × InProgress)). has_step (for_b
     lem true q = k
     lem false q = absurd (cc q)
 
-acts-found : (shape : Shape) (w : World) (s c t v : ℕ) (f : ℕ → Option (ℕ × Step)) (d : Option (ℕ × Step)) → Ranges shape w → Holds (w.held s c v) t → ((v : ℕ) → has_step (f v) ≡ true) → has_step (at_way (find shape.ways (w.held s c) t) f d) ≡ true
+acts-found : (shape : Shape) (w : World) (s c t v : ℕ) (f : ℕ → Option (ℕ × Step)) (d : Option (ℕ × Step)) → Ranges shape w → Holds (w.held s c v) t
+    → ((v : ℕ) → has_step (f v) ≡ true) → has_step (at_way (find shape.ways (w.held s c) t) f d) ≡ true
 acts-found shape w s c t v f d k l g = lem (find shape.ways (w.held s c) t) refl
   where
     lem : (o : Option ℕ) → find shape.ways (w.held s c) t ≡ o → has_step (at_way o f d) ≡ true
     lem None e = absurd (not_found shape.ways (w.held s c) t e v (k.held s c v t l).way l)
     lem (Some u) e = g u
 
-block-acts : (s c t v : ℕ) (x : Coh) (ws : ℕ → ℕ) (rest : List (ℕ × ToCache)) (b : InProgress) → flight_command (ByBlock x ws) c b c ≡ Blk t v x ws ∷ [] → suits b.op x ≡ true → has_step (cond (eqb b.way v) (block_row s c t v x ws rest b.op) None) ≡ true
+block-acts : (s c t v : ℕ) (x : Coh) (ws : ℕ → ℕ) (rest : List (ℕ × ToCache)) (b : InProgress) → flight_command (ByBlock x ws) c b c ≡ Blk t v x ws ∷ []
+    → suits b.op x ≡ true → has_step (cond (eqb b.way v) (block_row s c t v x ws rest b.op) None) ≡ true
 block-acts s c t v x ws rest b e k = grind (arith, nat_tests)
 
 flight-blk : (c t v : ℕ) (x : Coh) (ws : ℕ → ℕ) (b : InProgress) (f : Flight) → flight_command f c b c ≡ Blk t v x ws ∷ [] → f ≡ ByBlock x ws
@@ -148,16 +153,20 @@ flight-blk c t v x ws b f e = grind arith
 flight-wake : (c t v : ℕ) (b : InProgress) (f : Flight) → flight_command f c b c ≡ StWake t v ∷ [] → (f ≡ ByWake) × (t ≡ op_tag b.op) × (v ≡ b.way)
 flight-wake c t v b f e = grind arith
 
-wake-acts : (w : World) (s c t v : ℕ) (rest : List (ℕ × ToCache)) (b : InProgress) → t ≡ op_tag b.op → v ≡ b.way → is_store b.op ≡ true → Holds (w.held s c b.way) (op_tag b.op) → has_step (cond (eqb b.way v) (wake_row w s c t v rest b.op) None) ≡ true
+wake-acts : (w : World) (s c t v : ℕ) (rest : List (ℕ × ToCache)) (b : InProgress) → t ≡ op_tag b.op → v ≡ b.way → is_store b.op ≡ true
+    → Holds (w.held s c b.way) (op_tag b.op) → has_step (cond (eqb b.way v) (wake_row w s c t v rest b.op) None) ≡ true
 wake-acts w s c t v rest b e f k l = grind (arith, nat_tests)
 
-word-acts : (s c t j n : ℕ) (rest : List (ℕ × ToCache)) (b : InProgress) (f : Flight) → flight_command f c b c ≡ UcBlk t j n ∷ [] → flight_kind f b.op ≡ true → has_step (word_row s c t b.way j n rest b.op) ≡ true
+word-acts : (s c t j n : ℕ) (rest : List (ℕ × ToCache)) (b : InProgress) (f : Flight) → flight_command f c b c ≡ UcBlk t j n ∷ [] → flight_kind f b.op ≡ true
+    → has_step (word_row s c t b.way j n rest b.op) ≡ true
 word-acts s c t j n rest b f e k = grind (arith, nat_tests)
 
-stored-acts : (s c t j : ℕ) (rest : List (ℕ × ToCache)) (b : InProgress) (f : Flight) → flight_command f c b c ≡ UcDone t j ∷ [] → flight_kind f b.op ≡ true → has_step (stored_row s c t b.way j rest b.op) ≡ true
+stored-acts : (s c t j : ℕ) (rest : List (ℕ × ToCache)) (b : InProgress) (f : Flight) → flight_command f c b c ≡ UcDone t j ∷ [] → flight_kind f b.op ≡ true
+    → has_step (stored_row s c t b.way j rest b.op) ≡ true
 stored-acts s c t j rest b f e k = grind (arith, nat_tests)
 
-evicted-acts : (s c t : ℕ) (rest : List (ℕ × ToCache)) (b : InProgress) (f : Flight) → flight_command f c b c ≡ Done t ∷ [] → flight_kind f b.op ≡ true → has_step (evicted_row s c t b.way rest b.op) ≡ true
+evicted-acts : (s c t : ℕ) (rest : List (ℕ × ToCache)) (b : InProgress) (f : Flight) → flight_command f c b c ≡ Done t ∷ [] → flight_kind f b.op ≡ true
+    → has_step (evicted_row s c t b.way rest b.op) ≡ true
 evicted-acts s c t rest b f e k = grind (arith, nat_tests)
 
 pub record Filling (p : Phase) (c o : ℕ) (m : FillMessage) : Type 0 where
@@ -175,7 +184,8 @@ fill_of c o m rest (Flying r b f) e = record { busy = b; is = (lem f e).0; tag =
     lem f e = grind (arith, nat_tests)
 fill_of c o m rest (Settling r u) e = absurd (cc e)
 
-fill-acts : (s c o : ℕ) (m : FillMessage) (rest : List (ℕ × FillMessage)) (b : InProgress) → m.tag ≡ op_tag b.op → m.way ≡ b.way → suits b.op m.state ≡ true → has_step (cond (eqb b.way m.way) (fill_row s c o m rest b.op) None) ≡ true
+fill-acts : (s c o : ℕ) (m : FillMessage) (rest : List (ℕ × FillMessage)) (b : InProgress) → m.tag ≡ op_tag b.op → m.way ≡ b.way → suits b.op m.state ≡ true
+    → has_step (cond (eqb b.way m.way) (fill_row s c o m rest b.op) None) ≡ true
 fill-acts s c o m rest b e f k = grind (arith, nat_tests)
 
 module _ (shape : Shape) (w : World) (all : EveryGroup w) (k : Ranges shape w) where
@@ -221,16 +231,19 @@ module _ (shape : Shape) (w : World) (all : EveryGroup w) (k : Ranges shape w) w
       let g : Grants (all s).0 c (Done t) = grants (all s).0 c (Done t) (only s rest) refl (head_of s c (Done t) rest e) in
       acts-busy s (w.busy c) g.busy _ (busy_of s c _ g) (evicted-acts s c t rest g.busy g.flight g.sent (kind_of s c _ g))
 
-  pub never_foreign_fill : (s c o : ℕ) (rest : List (ℕ × FillMessage)) (m : FillMessage) → w.fill c o ≡ (s, m) ∷ rest → has_step (filled w c o ((s, m) ∷ rest)) ≡ true
+  pub never_foreign_fill : (s c o : ℕ) (rest : List (ℕ × FillMessage)) (m : FillMessage) → w.fill c o ≡ (s, m) ∷ rest
+      → has_step (filled w c o ((s, m) ∷ rest)) ≡ true
   never_foreign_fill s c o rest m e =
       let f : Filling (all s).0 c o m = fill_of c o m (only s rest) (all s).0 (sym ((all s).1.fills c o) ∙ only-head s (w.fill c o) rest m e) in
       let b : w.busy c ≡ Some (s, f.busy) = mine-back s (w.busy c) f.busy (subst (λ (p : Phase). Taker p (view s w).busy) f.is (all s).1.taker) in
       acts-busy s (w.busy c) f.busy _ b (fill-acts s c o m rest f.busy f.tag f.way (subst (λ (p : Phase). phase_kind p ≡ true) f.is (all s).1.kind))
 
-  command-row : (c : ℕ) (ms : List (ℕ × ToCache)) (s : ℕ) (m : ToCache) (rest : List (ℕ × ToCache)) → w.command c ≡ ms → ms ≡ (s, m) ∷ rest → has_step (commanded shape.ways w c ms) ≡ true
+  command-row : (c : ℕ) (ms : List (ℕ × ToCache)) (s : ℕ) (m : ToCache) (rest : List (ℕ × ToCache)) → w.command c ≡ ms → ms ≡ (s, m) ∷ rest
+      → has_step (commanded shape.ways w c ms) ≡ true
   command-row c ms s m rest e f = subst (λ (xs : List (ℕ × ToCache)). has_step (commanded shape.ways w c xs) ≡ true) (sym f) (never_foreign s c rest m (e ∙ f))
 
-  fill-row : (c o : ℕ) (ms : List (ℕ × FillMessage)) (s : ℕ) (m : FillMessage) (rest : List (ℕ × FillMessage)) → w.fill c o ≡ ms → ms ≡ (s, m) ∷ rest → has_step (filled w c o ms) ≡ true
+  fill-row : (c o : ℕ) (ms : List (ℕ × FillMessage)) (s : ℕ) (m : FillMessage) (rest : List (ℕ × FillMessage)) → w.fill c o ≡ ms → ms ≡ (s, m) ∷ rest
+      → has_step (filled w c o ms) ≡ true
   fill-row c o ms s m rest e f = subst (λ (xs : List (ℕ × FillMessage)). has_step (filled w c o xs) ≡ true) (sym f) (never_foreign_fill s c o rest m (e ∙ f))
 
   pub no_foreign : NoForeign shape w

@@ -34,14 +34,16 @@ module _ (r y t : ℕ) (x : Coh) (d : ℕ → ℕ → Entry)
   pub Alone-entry : Alone d → Alone (with_entry r y t x d)
   Alone-entry one u c w o v k l n = lem (one u c w o v) (fit c w) (fit o v)
     where
-      lem : (Holds (d c w) u → Holds (d o v) u → c ≢ o → is_writable (d c w).state ≡ false) → (c ≢ r → Holds (d c w) t → fits x (d c w).state ≡ true) → (o ≢ r → Holds (d o v) t → fits x (d o v).state ≡ true)
+      lem : (Holds (d c w) u → Holds (d o v) u → c ≢ o → is_writable (d c w).state ≡ false) → (c ≢ r → Holds (d c w) t → fits x (d c w).state ≡ true)
+          → (o ≢ r → Holds (d o v) t → fits x (d o v).state ≡ true)
           → is_writable (with_entry r y t x d c w).state ≡ false
       lem f p q = grind (arith, nat_tests)
 
   pub OneOwner-entry : OneOwner d → OneOwner (with_entry r y t x d)
   OneOwner-entry one u c w o v k l n e = lem (one u c w o v) (fit c w) (fit o v)
     where
-      lem : (Holds (d c w) u → Holds (d o v) u → c ≢ o → is_owner_like (d c w).state ≡ true → is_owner_like (d o v).state ≡ false) → (c ≢ r → Holds (d c w) t → fits x (d c w).state ≡ true) → (o ≢ r → Holds (d o v) t → fits x (d o v).state ≡ true)
+      lem : (Holds (d c w) u → Holds (d o v) u → c ≢ o → is_owner_like (d c w).state ≡ true → is_owner_like (d o v).state ≡ false)
+          → (c ≢ r → Holds (d c w) t → fits x (d c w).state ≡ true) → (o ≢ r → Holds (d o v) t → fits x (d o v).state ≡ true)
           → is_owner_like (with_entry r y t x d o v).state ≡ false
       lem f p q = grind (arith, nat_tests)
 
@@ -49,7 +51,8 @@ module _ (r y t : ℕ) (x : Coh) (d : ℕ → ℕ → Entry)
 module _ (g : Group) (r : ℕ) (b : InProgress) (rd : Reading) (wr : Bool) (inv : ℕ → Ack)
     (good : Good (Open r b NoFlush inv) (record g { transaction = Some (open_transaction r b Idle rd wr []) })) where
   pub quiet-matches : (c w : ℕ) → Matches (g.directory c w) (g.held c w)
-  quiet-matches c w = subst (λ (a : Ack). Matches (g.directory c w) (inv_effect (op_tag b.op) a (g.held c w))) (no_inv_is (inv c) (sym (good.transaction.acks c))) (good.copies.matches c w)
+  quiet-matches c w =
+      subst (λ (a : Ack). Matches (g.directory c w) (inv_effect (op_tag b.op) a (g.held c w))) (no_inv_is (inv c) (sym (good.transaction.acks c))) (good.copies.matches c w)
 
   pub quiet-commands : (c : ℕ) → g.command c ≡ []
   quiet-commands c = good.commands c ∙ ap (inv_command (op_tag b.op)) (no_inv_is (inv c) (sym (good.transaction.acks c)))
@@ -79,7 +82,8 @@ pub covered-holds : (d h : Entry) (t : ℕ) → Matches d h → Holds d t → Ho
 covered-holds d h t m k = grind arith
 
 -- the entry that the block replaces is clean
-pub light-entry : (d h : Entry) (t : ℕ) → Matches d h → (is_readable d.state ≡ true → d.tag ≢ t → is_light d.state ≡ true) → (Holds h t → is_light h.state ≡ true) → is_light h.state ≡ true
+pub light-entry : (d h : Entry) (t : ℕ) → Matches d h → (is_readable d.state ≡ true → d.tag ≢ t → is_light d.state ≡ true)
+    → (Holds h t → is_light h.state ≡ true) → is_light h.state ≡ true
 light-entry d h t m f g = grind (arith, nat_tests)
 
 -- a block from memory
@@ -101,13 +105,15 @@ module _ (g : Group) (r : ℕ) (b : InProgress) (ws : ℕ → ℕ) (wr : Bool) (
   unfolding put
   block-commands c = lem (quiet-commands g r b (Got ws) wr inv good c) (quiet-commands g r b (Got ws) wr inv good r)
     where
-      lem : g.command c ≡ [] → g.command r ≡ [] → cond (eqb c r) (g.command r ++ Blk (op_tag b.op) b.way x ws ∷ []) (g.command c) ≡ at_cache c r (Blk (op_tag b.op) b.way x ws)
+      lem : g.command c ≡ [] → g.command r ≡ []
+          → cond (eqb c r) (g.command r ++ Blk (op_tag b.op) b.way x ws ∷ []) (g.command c) ≡ at_cache c r (Blk (op_tag b.op) b.way x ws)
       lem e f = grind (arith, nat_tests)
 
   block-matches : (c w : ℕ) → Matches (with_entry r b.way (op_tag b.op) x g.directory c w) (with_entry r b.way (op_tag b.op) x g.held c w)
   block-matches c w = lem (m c w)
     where
-      lem : Matches (g.directory c w) (g.held c w) → Matches (with_entry r b.way (op_tag b.op) x g.directory c w) (with_entry r b.way (op_tag b.op) x g.held c w)
+      lem : Matches (g.directory c w) (g.held c w)
+          → Matches (with_entry r b.way (op_tag b.op) x g.directory c w) (with_entry r b.way (op_tag b.op) x g.held c w)
       lem k = grind (arith, nat_tests)
 
   pub block_good : Good (Flying r b (ByBlock x ws)) (record g {

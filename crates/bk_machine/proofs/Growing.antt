@@ -11,7 +11,8 @@ pub values-append : (v : ℕ → ℕ → ℕ) (ds : List Completed) (d : Complet
 values-append v [] d = refl
 values-append v (x ∷ ds) d = values-append (after_op x.op v) ds d
 
-pub Answers-append : (v : ℕ → ℕ → ℕ) (ds : List Completed) (d : Completed) → Answers v ds → answer_is d.op (values_after v ds) d.answer → Answers v (ds ++ d ∷ [])
+pub Answers-append : (v : ℕ → ℕ → ℕ) (ds : List Completed) (d : Completed) → Answers v ds → answer_is d.op (values_after v ds) d.answer
+    → Answers v (ds ++ d ∷ [])
 Answers-append v [] d p q = (q, tt)
 Answers-append v (x ∷ ds) d p q = (p.0, Answers-append (after_op x.op v) ds d p.1 q)
 
@@ -34,7 +35,8 @@ reads-append (Read t ∷ ms) x = omega (arith, reads-append ms x)
 reads-append (Write t ws ∷ ms) x = reads-append ms x
 reads-append (WriteWord t k n ∷ ms) x = reads-append ms x
 
-pub ReadsFor-append : (t : ℕ) (ws : ℕ → ℕ) (m : ℕ → ℕ → ℕ) (ms : List ToMemory) (x : ToMemory) → ReadsFor t ws m ms → ReadsFor t ws (effective m ms) (x ∷ []) → ReadsFor t ws m (ms ++ x ∷ [])
+pub ReadsFor-append : (t : ℕ) (ws : ℕ → ℕ) (m : ℕ → ℕ → ℕ) (ms : List ToMemory) (x : ToMemory) → ReadsFor t ws m ms → ReadsFor t ws (effective m ms) (x ∷ [])
+    → ReadsFor t ws m (ms ++ x ∷ [])
 ReadsFor-append t ws m [] x p q = q
 ReadsFor-append t ws m (Read u ∷ ms) x p q = (p.0, p.1, ReadsFor-append t ws m ms x p.2 q)
 ReadsFor-append t ws m (Write u xs ∷ ms) x p q = ReadsFor-append t ws (write_block m u xs) ms x p q
@@ -62,7 +64,8 @@ BlocksFor-same t ws us [] e p = tt
 BlocksFor-same t ws us (b ∷ bs) e p = (p.0, (λ k. p.1 k ∙ e k), BlocksFor-same t ws us bs e p.2)
 
 -- an open transaction while its flush and its invalidations move
-pub TransactionAt-moves : (r : ℕ) (b : InProgress) (fl fm : Flush) (inv iow : ℕ → Ack) → ((x : WriteBack) → flush_state fl x → flush_state fm x) → ((u : ℕ) → flush_on fl u ≡ flush_on fm u) → ((c : ℕ) → due (inv c) ≡ due (iow c))
+pub TransactionAt-moves : (r : ℕ) (b : InProgress) (fl fm : Flush) (inv iow : ℕ → Ack) → ((x : WriteBack) → flush_state fl x → flush_state fm x)
+    → ((u : ℕ) → flush_on fl u ≡ flush_on fm u) → ((c : ℕ) → due (inv c) ≡ due (iow c))
     → (transaction : Option Transaction) → TransactionAt (Open r b fl inv) transaction → TransactionAt (Open r b fm iow) transaction
 TransactionAt-moves r b fl fm inv iow f o g None p = p
 TransactionAt-moves r b fl fm inv iow f o g (Some x) p = record {

@@ -71,7 +71,8 @@ module _ (p : Phase) (g : Group) (c w : ℕ) (op : Op) (good : Good p g) (idle :
   unfolding put
   asked-taker = grind (arith, nat_tests, good.taker)
 
-  asked-placed : (i : ℕ) (b : InProgress) (y : Bool) → eqb i c ≡ y → cond y (Some (record { op = op; way = w })) (g.busy i) ≡ Some b → Placed b.op b.way (g.held i)
+  asked-placed : (i : ℕ) (b : InProgress) (y : Bool) → eqb i c ≡ y → cond y (Some (record { op = op; way = w })) (g.busy i) ≡ Some b
+      → Placed b.op b.way (g.held i)
   asked-placed i b true d e = subst (λ (z : InProgress). Placed z.op z.way (g.held i)) (the_busy b e) (subst (λ (j : ℕ). Placed op w (g.held j)) (sym (is_cache i d)) fits)
     where
       the_busy : (b : InProgress) → Some (record { op = op; way = w }) ≡ Some b → record { op = op; way = w } ≡ b
@@ -107,11 +108,13 @@ module _ (p : Phase) (g : Group) (c w : ℕ) (op : Op) (good : Good p g) (idle :
 written-free : (d h : Entry) → Matches d h → is_writable h.state ≡ true → Matches d (with_state h M)
 written-free d h m e = grind (arith, nat_tests)
 
-written-open : (b : InProgress) (fl : Flush) (a : Ack) (i v : ℕ) (d h : Entry) → Matches d (inv_effect (op_tag b.op) a (flush_effect fl i v h)) → is_writable h.state ≡ true
+written-open : (b : InProgress) (fl : Flush) (a : Ack) (i v : ℕ) (d h : Entry) → Matches d (inv_effect (op_tag b.op) a (flush_effect fl i v h))
+    → is_writable h.state ≡ true
     → Matches d (inv_effect (op_tag b.op) a (flush_effect fl i v (with_state h M)))
 written-open b fl a i v d h m e = grind (arith, nat_tests)
 
-written-flying : (f : Flight) (r : ℕ) (b : InProgress) (i v : ℕ) (d h : Entry) → Matches d (flight_effect f r b i v h) → is_writable h.state ≡ true → Matches d (flight_effect f r b i v (with_state h M))
+written-flying : (f : Flight) (r : ℕ) (b : InProgress) (i v : ℕ) (d h : Entry) → Matches d (flight_effect f r b i v h) → is_writable h.state ≡ true
+    → Matches d (flight_effect f r b i v (with_state h M))
 written-flying f r b i v d h m e = grind (arith, nat_tests)
 
 written-matches : (p : Phase) (i v : ℕ) (d h : Entry) → Matches d (expected p i v h) → is_writable h.state ≡ true → Matches d (expected p i v (with_state h M))
@@ -121,14 +124,17 @@ written-matches (Flying r b f) i v d h m e = written-flying f r b i v d h m e
 written-matches (Settling r t) i v d h m e = written-free d h m e
 
 -- where a block of the tag is to come to another cache, no cache may write the tag
-landing-at : (d h : ℕ → ℕ → Entry) (r y u : ℕ) (x : Coh) → is_readable x ≡ true → Matches (d r y) (cond (eqb r r && eqb y y) (record { tag = u; state = x }) (h r y)) → Holds (d r y) u
+landing-at : (d h : ℕ → ℕ → Entry) (r y u : ℕ) (x : Coh) → is_readable x ≡ true
+    → Matches (d r y) (cond (eqb r r && eqb y y) (record { tag = u; state = x }) (h r y)) → Holds (d r y) u
 landing-at d h r y u x e m = grind (arith, nat_tests)
 
-elsewhere-at : (d h : ℕ → ℕ → Entry) (r y c w t u : ℕ) (x : Coh) → r ≢ c → Matches (d c w) (cond (eqb c r && eqb w y) (record { tag = u; state = x }) (h c w)) → Holds (h c w) t → is_writable (h c w).state ≡ true
+elsewhere-at : (d h : ℕ → ℕ → Entry) (r y c w t u : ℕ) (x : Coh) → r ≢ c → Matches (d c w) (cond (eqb c r && eqb w y) (record { tag = u; state = x }) (h c w))
+    → Holds (h c w) t → is_writable (h c w).state ≡ true
     → (Holds (d c w) t) × (is_writable (d c w).state ≡ true)
 elsewhere-at d h r y c w t u x n m k e = grind (arith, nat_tests)
 
-landing-apart : (d h : ℕ → ℕ → Entry) (r y c w t u : ℕ) (x : Coh) → Alone d → is_readable x ≡ true → r ≢ c → ((i v : ℕ) → Matches (d i v) (cond (eqb i r && eqb v y) (record { tag = u; state = x }) (h i v)))
+landing-apart : (d h : ℕ → ℕ → Entry) (r y c w t u : ℕ) (x : Coh) → Alone d → is_readable x ≡ true → r ≢ c
+    → ((i v : ℕ) → Matches (d i v) (cond (eqb i r && eqb v y) (record { tag = u; state = x }) (h i v)))
     → Holds (h c w) t → is_writable (h c w).state ≡ true → u ≢ t
 landing-apart d h r y c w t u x one e n m k z same =
     let here : Holds (d r y) t = subst (λ (q : ℕ). Holds (d r y) q) same (landing-at d h r y u x e (m r y)) in
@@ -155,10 +161,12 @@ module _ (p : Phase) (g : Group) (c t w k n : ℕ) (good : Good p g) (idle : g.b
   unfolding put2
   lighter i v u l e = grind (arith, nat_tests)
 
-  hit-matches : (i v : ℕ) (y : Bool) → eqb i c && eqb v w ≡ y → Matches (paid g.transaction g.directory i v) (expected p i v (cond y (with_state (g.held c w) M) (g.held i v)))
+  hit-matches : (i v : ℕ) (y : Bool) → eqb i c && eqb v w ≡ y
+      → Matches (paid g.transaction g.directory i v) (expected p i v (cond y (with_state (g.held c w) M) (g.held i v)))
   hit-matches i v true e = hit-here i v (good.copies.matches i v) e
     where
-      hit-here : (i v : ℕ) → Matches (paid g.transaction g.directory i v) (expected p i v (g.held i v)) → eqb i c && eqb v w ≡ true → Matches (paid g.transaction g.directory i v) (expected p i v (with_state (g.held c w) M))
+      hit-here : (i v : ℕ) → Matches (paid g.transaction g.directory i v) (expected p i v (g.held i v)) → eqb i c && eqb v w ≡ true
+          → Matches (paid g.transaction g.directory i v) (expected p i v (with_state (g.held c w) M))
       hit-here i v m e = subst (λ (h : Entry). Matches (paid g.transaction g.directory i v) (expected p i v (with_state h M))) (same_entry i v e) (written-matches p i v _ _ m (writes_there i v e))
         where
           same_entry : (i v : ℕ) → eqb i c && eqb v w ≡ true → g.held i v ≡ g.held c w
@@ -176,7 +184,8 @@ module _ (p : Phase) (g : Group) (c t w k n : ℕ) (good : Good p g) (idle : g.b
   unfolding put2
   hit-aims fl a = grind (arith, nat_tests)
 
-  hit-going : (r u : ℕ) (fl : Flush) (inv : ℕ → Ack) → Invalidating r u fl inv (paid g.transaction g.directory) g.held → Invalidating r u fl inv (paid g.transaction g.directory) (put2 g.held c w (with_state (g.held c w) M))
+  hit-going : (r u : ℕ) (fl : Flush) (inv : ℕ → Ack) → Invalidating r u fl inv (paid g.transaction g.directory) g.held
+      → Invalidating r u fl inv (paid g.transaction g.directory) (put2 g.held c w (with_state (g.held c w) M))
   unfolding put2
   hit-going r u fl inv a = record { not_own = a.not_own; gone = a.gone; behind = a.behind; clean = λ i v e l. grind (arith, nat_tests, a.clean i v) }
 
@@ -184,12 +193,14 @@ module _ (p : Phase) (g : Group) (c t w k n : ℕ) (good : Good p g) (idle : g.b
   unfolding put2
   hit-flight r b (ByBlock x ws) a = record { is_valid = a.is_valid; light = grind (arith, nat_tests) }
   hit-flight r b ByWake a = grind (arith, nat_tests)
-  hit-flight r b (ByTransfer o ow y x) a = record { is_valid = a.is_valid; other = a.other; weaker = a.weaker; light = grind (arith, nat_tests); has = grind (arith, nat_tests); stays_dirty = λ e. grind (arith, nat_tests, a.stays_dirty e) }
+  hit-flight r b (ByTransfer o ow y x) a =
+      record { is_valid = a.is_valid; other = a.other; weaker = a.weaker; light = grind (arith, nat_tests); has = grind (arith, nat_tests); stays_dirty = λ e. grind (arith, nat_tests, a.stays_dirty e) }
   hit-flight r b (ByFill o x ws) a = record { is_valid = a.is_valid; light = grind (arith, nat_tests) }
   hit-flight r b (ByWord v) a = tt
   hit-flight r b ByDone a = tt
 
-  hit-standing : (p : Phase) → Standing p (paid g.transaction g.directory) g.held → Standing p (paid g.transaction g.directory) (put2 g.held c w (with_state (g.held c w) M))
+  hit-standing : (p : Phase) → Standing p (paid g.transaction g.directory) g.held
+      → Standing p (paid g.transaction g.directory) (put2 g.held c w (with_state (g.held c w) M))
   hit-standing Free s = tt
   hit-standing (Open r b fl inv) s = (hit-aims fl s.0, hit-going r (op_tag b.op) fl inv s.1)
   hit-standing (Flying r b f) s = hit-flight r b f s
@@ -216,15 +227,19 @@ module _ (p : Phase) (g : Group) (c t w k n : ℕ) (good : Good p g) (idle : g.b
   copy-apart : (u : ℕ) → NoCopy g.held u → u ≢ t
   copy-apart u none = grind (arith, nat_tests, none c w)
 
-  hit-words : (u i y j : ℕ) → Holds (put2 g.held c w (with_state (g.held c w) M) i y) u → put2 g.words c w (put (g.words c w) k n) i y j ≡ after_op (Store t k n) (latest g.history) u j
+  hit-words : (u i y j : ℕ) → Holds (put2 g.held c w (with_state (g.held c w) M) i y) u
+      → put2 g.words c w (put (g.words c w) k n) i y j ≡ after_op (Store t k n) (latest g.history) u j
   unfolding put2 put
   hit-words u i y j l = grind (arith, nat_tests, good.values.copies u i y j, good.copies.real_way t c w y, good.copies.real_alone t c w i y)
 
-  hit-elsewhere : (u : ℕ) → ((i y : ℕ) → Holds (put2 g.held c w (with_state (g.held c w) M) i y) u → is_dirty (put2 g.held c w (with_state (g.held c w) M) i y).state ≡ false) → u ≢ t
+  hit-elsewhere : (u : ℕ)
+      → ((i y : ℕ) → Holds (put2 g.held c w (with_state (g.held c w) M) i y) u → is_dirty (put2 g.held c w (with_state (g.held c w) M) i y).state ≡ false)
+      → u ≢ t
   unfolding put2
   hit-elsewhere u home = grind (arith, nat_tests, home c w)
 
-  hit-clean : (u : ℕ) → u ≢ t → ((i y : ℕ) → Holds (put2 g.held c w (with_state (g.held c w) M) i y) u → is_dirty (put2 g.held c w (with_state (g.held c w) M) i y).state ≡ false)
+  hit-clean : (u : ℕ) → u ≢ t
+      → ((i y : ℕ) → Holds (put2 g.held c w (with_state (g.held c w) M) i y) u → is_dirty (put2 g.held c w (with_state (g.held c w) M) i y).state ≡ false)
       → (i y : ℕ) → Holds (g.held i y) u → is_dirty (g.held i y).state ≡ false
   unfolding put2
   hit-clean u d home i y l = grind (arith, nat_tests, home i y)
@@ -236,7 +251,9 @@ module _ (p : Phase) (g : Group) (c t w k n : ℕ) (good : Good p g) (idle : g.b
   hit-flush (FlushDone o u (Some ws)) q = ((λ j. q.0 j ∙ hit-same u (hit-apart u q.1) j), NoWriter-fewer fewer u q.1)
 
   -- no block for the tag is on its way to another cache
-  hit-landing : (r : ℕ) (b : InProgress) (x : Coh) → is_readable x ≡ true → r ≢ c → ((i y : ℕ) → Matches (paid g.transaction g.directory i y) (cond (eqb i r && eqb y b.way) (record { tag = op_tag b.op; state = x }) (g.held i y))) → op_tag b.op ≢ t
+  hit-landing : (r : ℕ) (b : InProgress) (x : Coh) → is_readable x ≡ true → r ≢ c
+      → ((i y : ℕ) → Matches (paid g.transaction g.directory i y) (cond (eqb i r && eqb y b.way) (record { tag = op_tag b.op; state = x }) (g.held i y)))
+      → op_tag b.op ≢ t
   hit-landing r b x e d m = landing-apart (paid g.transaction g.directory) g.held r b.way c w t (op_tag b.op) x good.copies.alone e d m has writes
 
   not_busy : (r : ℕ) (b : InProgress) → g.busy r ≡ Some b → r ≢ c
@@ -249,7 +266,8 @@ module _ (p : Phase) (g : Group) (c t w k n : ℕ) (good : Good p g) (idle : g.b
   hit-done (UcStore u j x) q = (q.0, NoCopy-fewer fewer u q.1)
   hit-done (Evict u) q = tt
 
-  hit-flying : (r : ℕ) (b : InProgress) (f : Flight) → g.busy r ≡ Some b → Standing (Flying r b f) (paid g.transaction g.directory) g.held → ((i y : ℕ) → Matches (paid g.transaction g.directory i y) (expected (Flying r b f) i y (g.held i y)))
+  hit-flying : (r : ℕ) (b : InProgress) (f : Flight) → g.busy r ≡ Some b → Standing (Flying r b f) (paid g.transaction g.directory) g.held
+      → ((i y : ℕ) → Matches (paid g.transaction g.directory i y) (expected (Flying r b f) i y (g.held i y)))
       → FlightValues f b g.held v a → FlightValues f b (put2 g.held c w (with_state (g.held c w) M)) v2 a
   hit-flying r b (ByBlock x ws) e s m q = λ j. q j ∙ hit-same (op_tag b.op) (hit-landing r b x s.is_valid (not_busy r b e) m) j
   hit-flying r b ByWake e s m q = tt
@@ -258,7 +276,9 @@ module _ (p : Phase) (g : Group) (c t w k n : ℕ) (good : Good p g) (idle : g.b
   hit-flying r b (ByWord z) e s m q = (q.0 ∙ hit-same (op_tag b.op) (hit-apart (op_tag b.op) q.1) (op_word b.op), NoWriter-fewer fewer (op_tag b.op) q.1)
   hit-flying r b ByDone e s m q = hit-done b.op q
 
-  hit-phase : (p : Phase) → Taker p g.busy → Standing p (paid g.transaction g.directory) g.held → ((i y : ℕ) → Matches (paid g.transaction g.directory i y) (expected p i y (g.held i y))) → PhaseValues p g.held v a → PhaseValues p (put2 g.held c w (with_state (g.held c w) M)) v2 a
+  hit-phase : (p : Phase) → Taker p g.busy → Standing p (paid g.transaction g.directory) g.held
+      → ((i y : ℕ) → Matches (paid g.transaction g.directory i y) (expected p i y (g.held i y))) → PhaseValues p g.held v a
+      → PhaseValues p (put2 g.held c w (with_state (g.held c w) M)) v2 a
   hit-phase Free e s m q = tt
   hit-phase (Open r b fl inv) e s m q = hit-flush fl q
   hit-phase (Flying r b f) e s m q = hit-flying r b f e s m q
@@ -282,9 +302,11 @@ module _ (p : Phase) (g : Group) (c t w k n : ℕ) (good : Good p g) (idle : g.b
   hit-written true (UcWr u j z) q = (q.0, NoCopy-fewer fewer u q.1)
   hit-written true (EvictRequest u y) q = q
 
-  hit-transaction : (granted : Bool) (x : Transaction) → cond granted (Unit {0}) (TransactionValues x g.held v a) → cond granted (Unit {0}) (TransactionValues x (put2 g.held c w (with_state (g.held c w) M)) v2 a)
+  hit-transaction : (granted : Bool) (x : Transaction) → cond granted (Unit {0}) (TransactionValues x g.held v a)
+      → cond granted (Unit {0}) (TransactionValues x (put2 g.held c w (with_state (g.held c w) M)) v2 a)
   hit-transaction true x q = tt
-  hit-transaction false x q = record { kept = hit-kept x.write_back q.kept; read = hit-read x.reading (request_tag x.request) q.read; written = hit-written x.written x.request q.written }
+  hit-transaction false x q =
+      record { kept = hit-kept x.write_back q.kept; read = hit-read x.reading (request_tag x.request) q.read; written = hit-written x.written x.request q.written }
 
   hit-open : (transaction : Option Transaction) → OpenValues transaction g.held v a → OpenValues transaction (put2 g.held c w (with_state (g.held c w) M)) v2 a
   hit-open None q = tt

@@ -10,7 +10,8 @@ use Rattle.bk_machine.proofs.Wraps.{Fine}
 fine-seen : (u : ℕ) (w : World) (g : Group) → Seen u w g → Fine g → Fine (view u w)
 fine-seen u w g e f = (f.0, subst (λ (h : Group). Good f.0 h) (sym e.is) f.1)
 
-pub step : (s : ℕ) (w v : World) (g : Group) → EveryGroup w → ((p : Phase) → Good p (view s w) → Fine g) → Seen s v g → ((u : ℕ) → u ≢ s → Seen u v (view u w)) → EveryGroup v
+pub step : (s : ℕ) (w v : World) (g : Group) → EveryGroup w → ((p : Phase) → Good p (view s w) → Fine g) → Seen s v g → ((u : ℕ) → u ≢ s → Seen u v (view u w))
+    → EveryGroup v
 step s w v g all f here other u = decide (eqb u s) refl
   where
     is : eqb u s ≡ true → s ≡ u

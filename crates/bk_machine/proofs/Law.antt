@@ -47,15 +47,19 @@ keeps s (CollectsAck c t rest x) w a all = keeps_ack s w all x a.0.is c t rest a
 keeps s (CollectsAnswer c t ws rest x) w a all = keeps_back s w all x a.0.is c t ws rest a.0.ungranted a.1
 keeps s (CollectsBlock t ws rest x) w a all = keeps_got s w all x a.0.is t ws rest a.0.ungranted a.1 a.2
 keeps s (Invalidates f to x) w a all = keeps_invalidate s w all x a.0.is f to a.0.ungranted a.1 a.2 a.3 a.4
-keeps s (FlushesVictim x) w a all = keeps_flush_sent s w all x a.ungranted.is x.cache (request_way x.request) (w.directory s x.cache (request_way x.request)).tag I a.ungranted.ungranted a.idle a.aims a.light a.weaker a.own
-keeps s (FlushesOwn v y x) w a all = keeps_flush_sent s w all x a.ungranted.is x.cache v (request_tag x.request) y a.ungranted.ungranted a.idle a.aims a.light a.weaker a.own
-keeps s (FlushesOwner o v y x) w a all = keeps_flush_sent s w all x a.ungranted.is o v (request_tag x.request) y a.ungranted.ungranted a.idle a.aims a.light a.weaker a.own
+keeps s (FlushesVictim x) w a all =
+    keeps_flush_sent s w all x a.ungranted.is x.cache (request_way x.request) (w.directory s x.cache (request_way x.request)).tag I a.ungranted.ungranted a.idle a.aims a.light a.weaker a.own
+keeps s (FlushesOwn v y x) w a all =
+    keeps_flush_sent s w all x a.ungranted.is x.cache v (request_tag x.request) y a.ungranted.ungranted a.idle a.aims a.light a.weaker a.own
+keeps s (FlushesOwner o v y x) w a all =
+    keeps_flush_sent s w all x a.ungranted.is o v (request_tag x.request) y a.ungranted.ungranted a.idle a.aims a.light a.weaker a.own
 keeps s (WritesBack b x) w a all = keeps_write_back s w all x a.0.is b a.0.ungranted a.1
 keeps s (ReadsMemory x) w a all = keeps_read_sent s w all x a.0.is a.0.ungranted a.1 a.2 a.3 a.4
 keeps s (WritesWord t k n x) w a all = keeps_word_sent s w all x a.0.ungranted.is t k n a.0.ungranted.ungranted a.0.idle a.0.acked a.1 a.2 a.3 a.4
 keeps s (GrantsByBlock ws y x) w a all = keeps_grant_block s w all x a.0.ungranted.is ws y a.0.ungranted.ungranted a.0.idle a.0.acked a.1 a.2 a.3 a.4 a.5 a.6
 keeps s (GrantsByWake t v x) w a all = keeps_grant_wake s w all x a.0.ungranted.is t v a.3.0 a.0.ungranted.ungranted a.0.idle a.0.acked a.1 a.2 a.3.1 a.4
-keeps s (GrantsByTransfer o ow y z x) w a all = keeps_grant_transfer s w all x a.0.ungranted.is o ow y z a.0.ungranted.ungranted a.0.idle a.0.acked a.1 a.2 a.3 a.4 a.5 a.6 a.7 a.8 a.9
+keeps s (GrantsByTransfer o ow y z x) w a all =
+    keeps_grant_transfer s w all x a.0.ungranted.is o ow y z a.0.ungranted.ungranted a.0.idle a.0.acked a.1 a.2 a.3 a.4 a.5 a.6 a.7 a.8 a.9
 keeps s (AnswersWord t k ws x) w a all = keeps_answer_word s w all x a.0.ungranted.is t k ws a.0.ungranted.ungranted a.0.idle a.0.acked a.1 a.2
 keeps s (AnswersStore t k n x) w a all = keeps_answer_store s w all x a.0.ungranted.is t k n a.0.ungranted.ungranted a.0.idle a.0.acked a.1 a.2 a.3
 keeps s (AnswersEvict t v x) w a all = keeps_answer_evict s w all x a.0.ungranted.is t v a.0.ungranted.ungranted a.0.idle a.0.acked a.1 a.2
@@ -105,7 +109,8 @@ sole w all = record {
   one_way = λ s t c v i k l. (all s).1.copies.real_way t c v i k l;
 }
 
-answers-tail : (s u : ℕ) (v : ℕ → ℕ → ℕ → ℕ) (d : Completed) (ds : List (ℕ × Completed)) → ((i : ℕ) → Answers (v i) (only i ((s, d) ∷ ds))) → Answers (put v s (after_op d.op (v s)) u) (only u ds)
+answers-tail : (s u : ℕ) (v : ℕ → ℕ → ℕ → ℕ) (d : Completed) (ds : List (ℕ × Completed)) → ((i : ℕ) → Answers (v i) (only i ((s, d) ∷ ds)))
+    → Answers (put v s (after_op d.op (v s)) u) (only u ds)
 answers-tail s u v d ds f = decide (eqb u s) refl
   where
     is : eqb u s ≡ true → s ≡ u
@@ -137,10 +142,12 @@ pending_agrees w all = record {
   one = λ s. most s ((all s).1.taken);
 }
   where
-    here : (s : ℕ) → w.pending s ≡ true → w.pending s ≡ not (is_free (all s).0) → w.taken s ≡ w.settled s + cond (is_free (all s).0) 0 1 → w.settled s < w.taken s
+    here : (s : ℕ) → w.pending s ≡ true → w.pending s ≡ not (is_free (all s).0) → w.taken s ≡ w.settled s + cond (is_free (all s).0) 0 1
+        → w.settled s < w.taken s
     here s e f k = grind arith
 
-    gone : (s : ℕ) → w.pending s ≡ false → w.pending s ≡ not (is_free (all s).0) → w.taken s ≡ w.settled s + cond (is_free (all s).0) 0 1 → w.taken s ≡ w.settled s
+    gone : (s : ℕ) → w.pending s ≡ false → w.pending s ≡ not (is_free (all s).0) → w.taken s ≡ w.settled s + cond (is_free (all s).0) 0 1
+        → w.taken s ≡ w.settled s
     gone s e f k = grind arith
 
     most : (s : ℕ) → w.taken s ≡ w.settled s + cond (is_free (all s).0) 0 1 → w.taken s ≤ w.settled s + 1

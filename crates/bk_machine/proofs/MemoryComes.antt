@@ -13,7 +13,8 @@ length-push : {X : Type 0} (xs : List X) (x : X) → length (xs ++ x ∷ []) ≡
 length-push [] x = grind arith
 length-push (y ∷ xs) x = omega (arith, length-push xs x)
 
-channels-read : (transaction : Option Transaction) (m v : ℕ → ℕ → ℕ) (u : ℕ) (ms : List ToMemory) (bs : List Block) → MemoryChannels transaction m v (Read u ∷ ms) bs
+channels-read : (transaction : Option Transaction) (m v : ℕ → ℕ → ℕ) (u : ℕ) (ms : List ToMemory) (bs : List Block)
+    → MemoryChannels transaction m v (Read u ∷ ms) bs
     → MemoryChannels transaction m v ms (bs ++ record { tag = u; words = m u } ∷ [])
 channels-read transaction m v u ms bs c = record {
   count = omega (arith, c.count, length-push bs (record { tag = u; words = m u }));
@@ -22,7 +23,8 @@ channels-read transaction m v u ms bs c = record {
 }
 
 module _ (p : Phase) (g : Group) (good : Good p g) where
-  pub read_comes : (u : ℕ) (rest : List ToMemory) → g.memout ≡ Read u ∷ rest → Good p (record g { memout = rest; memin = g.memin ++ record { tag = u; words = g.memory u } ∷ [] })
+  pub read_comes : (u : ℕ) (rest : List ToMemory) → g.memout ≡ Read u ∷ rest
+      → Good p (record g { memout = rest; memin = g.memin ++ record { tag = u; words = g.memory u } ∷ [] })
   read_comes u rest e = record {
     commands = good.commands;
     fills = good.fills;
@@ -40,7 +42,8 @@ module _ (p : Phase) (g : Group) (good : Good p g) where
     channels = channels-read g.transaction g.memory (latest g.history) u rest g.memin (subst (λ (ms : List ToMemory). MemoryChannels g.transaction g.memory (latest g.history) ms g.memin) e good.channels);
   }
 
-  pub write_comes : (u : ℕ) (ws : ℕ → ℕ) (rest : List ToMemory) → g.memout ≡ Write u ws ∷ rest → Good p (record g { memout = rest; memory = write_block g.memory u ws })
+  pub write_comes : (u : ℕ) (ws : ℕ → ℕ) (rest : List ToMemory) → g.memout ≡ Write u ws ∷ rest
+      → Good p (record g { memout = rest; memory = write_block g.memory u ws })
   write_comes u ws rest e =
       let c : MemoryChannels g.transaction g.memory (latest g.history) (Write u ws ∷ rest) g.memin = subst (λ (ms : List ToMemory). MemoryChannels g.transaction g.memory (latest g.history) ms g.memin) e good.channels in
       record {
@@ -60,7 +63,8 @@ module _ (p : Phase) (g : Group) (good : Good p g) where
         channels = record { count = c.count; to = c.to; back = c.back };
       }
 
-  pub write_word_comes : (u k n : ℕ) (rest : List ToMemory) → g.memout ≡ WriteWord u k n ∷ rest → Good p (record g { memout = rest; memory = write_word g.memory u k n })
+  pub write_word_comes : (u k n : ℕ) (rest : List ToMemory) → g.memout ≡ WriteWord u k n ∷ rest
+      → Good p (record g { memout = rest; memory = write_word g.memory u k n })
   write_word_comes u k n rest e =
       let c : MemoryChannels g.transaction g.memory (latest g.history) (WriteWord u k n ∷ rest) g.memin = subst (λ (ms : List ToMemory). MemoryChannels g.transaction g.memory (latest g.history) ms g.memin) e good.channels in
       record {

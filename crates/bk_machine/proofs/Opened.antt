@@ -38,7 +38,8 @@ granted_idle (Flying r b f) x t g = t.2
 granted_idle (Settling r u) x t g = t.2
 
 -- an entry that the directory has at an open phase is held by its cache
-flush-held : (fl : Flush) (c v : ℕ) (h : ℕ → ℕ → Entry) → FlushAims fl h → is_readable (flush_effect fl c v (h c v)).state ≡ true → is_readable (h c v).state ≡ true
+flush-held : (fl : Flush) (c v : ℕ) (h : ℕ → ℕ → Entry) → FlushAims fl h → is_readable (flush_effect fl c v (h c v)).state ≡ true
+    → is_readable (h c v).state ≡ true
 flush-held NoFlush c v h a e = e
 flush-held (FlushSent o w t x) c v h a e = lem a.0.is_valid e
   where
@@ -52,7 +53,8 @@ inv-held t a h e = grind (arith, nat_tests)
 covered-valid : (x y : Coh) → covers x y ≡ true → is_readable x ≡ true → is_readable y ≡ true
 covered-valid x y e f = grind arith
 
-pub open-held : (r : ℕ) (b : InProgress) (fl : Flush) (inv : ℕ → Ack) (d h : ℕ → ℕ → Entry) → Copies (Open r b fl inv) d h → (c v t : ℕ) → Holds (d c v) t → is_readable (h c v).state ≡ true
+pub open-held : (r : ℕ) (b : InProgress) (fl : Flush) (inv : ℕ → Ack) (d h : ℕ → ℕ → Entry) → Copies (Open r b fl inv) d h → (c v t : ℕ) → Holds (d c v) t
+    → is_readable (h c v).state ≡ true
 open-held r b fl inv d h copies c v t k =
     flush-held fl c v h copies.standing.0 (inv-held (op_tag b.op) (inv c) (flush_effect fl c v (h c v)) (covered-valid (d c v).state _ (copies.matches c v).covered k.is_valid))
 

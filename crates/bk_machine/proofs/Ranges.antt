@@ -47,7 +47,8 @@ busy-gone shape c busy old i x e = decide (eqb i c) e
     decide true e = absurd (cc e)
     decide false e = old i x e
 
-busy-put : (shape : Shape) (c : ℕ) (busy : ℕ → Option (ℕ × InProgress)) (y : ℕ × InProgress) → BusyWithin shape busy → InRange shape c y.1.way → BusyWithin shape (put busy c (Some y))
+busy-put : (shape : Shape) (c : ℕ) (busy : ℕ → Option (ℕ × InProgress)) (y : ℕ × InProgress) → BusyWithin shape busy → InRange shape c y.1.way
+    → BusyWithin shape (put busy c (Some y))
 unfolding put
 busy-put shape c busy y old l i x e = decide (eqb i c) refl e
   where
@@ -68,7 +69,8 @@ module _ (shape : Shape) (w : World) (old : Ranges shape w) where
   dropped : (s c t : ℕ) → (i j u : ℕ) → Holds (wipe c t (w.held s) i j) u → InRange shape i j
   dropped s c t i j u l = old.held s i j u ((wipe-fewer c t (w.held s)).holds i j u l)
 
-  entered : (s c v t : ℕ) (x : Coh) (b : ℕ × InProgress) → w.busy c ≡ Some b → b.1.way ≡ v → (i j u : ℕ) → Holds (put2 (w.held s) c v (record { tag = t; state = x }) i j) u → InRange shape i j
+  entered : (s c v t : ℕ) (x : Coh) (b : ℕ × InProgress) → w.busy c ≡ Some b → b.1.way ≡ v → (i j u : ℕ)
+      → Holds (put2 (w.held s) c v (record { tag = t; state = x }) i j) u → InRange shape i j
   entered s c v t x b e f = entry-within shape c v (w.held s) _ (old.held s) (subst (λ (y : ℕ). InRange shape c y) f (old.busy c b e))
 
 -- each step keeps the ranges, and each action, which touches neither
@@ -78,16 +80,23 @@ step_within shape s (StoreHits c t v k n) w a old = record { held = put-within s
 step_within shape s (Asks c v op) w a old = record { held = old.held; busy = busy-put shape c w.busy _ old.busy a.2 }
 step_within shape s (EvictIdles c t) w a old = record { held = old.held; busy = old.busy }
 step_within shape s (InvComes c t rest) w a old = record { held = put-within shape s w.held _ old.held (dropped shape w old s c t); busy = old.busy }
-step_within shape s (FlushComes c v t x rest) w a old = record { held = put-within shape s w.held _ old.held (weaker shape w old s c v t x a.1); busy = old.busy }
-step_within shape s (TransferComes c v t y peer pv x rest) w a old = record { held = put-within shape s w.held _ old.held (weaker shape w old s c v t y a.1); busy = old.busy }
-step_within shape s (BlockLoads c t v k x ws rest) w a old = record { held = put-within shape s w.held _ old.held (entered shape w old s c v t x _ a.1 refl); busy = busy-gone shape c w.busy old.busy }
-step_within shape s (BlockStores c t v k n x ws rest) w a old = record { held = put-within shape s w.held _ old.held (entered shape w old s c v t M _ a.1 refl); busy = busy-gone shape c w.busy old.busy }
-step_within shape s (WakeStores c t v k n rest) w a old = record { held = put-within shape s w.held _ old.held (entered shape w old s c v t M _ a.1 refl); busy = busy-gone shape c w.busy old.busy }
+step_within shape s (FlushComes c v t x rest) w a old =
+    record { held = put-within shape s w.held _ old.held (weaker shape w old s c v t x a.1); busy = old.busy }
+step_within shape s (TransferComes c v t y peer pv x rest) w a old =
+    record { held = put-within shape s w.held _ old.held (weaker shape w old s c v t y a.1); busy = old.busy }
+step_within shape s (BlockLoads c t v k x ws rest) w a old =
+    record { held = put-within shape s w.held _ old.held (entered shape w old s c v t x _ a.1 refl); busy = busy-gone shape c w.busy old.busy }
+step_within shape s (BlockStores c t v k n x ws rest) w a old =
+    record { held = put-within shape s w.held _ old.held (entered shape w old s c v t M _ a.1 refl); busy = busy-gone shape c w.busy old.busy }
+step_within shape s (WakeStores c t v k n rest) w a old =
+    record { held = put-within shape s w.held _ old.held (entered shape w old s c v t M _ a.1 refl); busy = busy-gone shape c w.busy old.busy }
 step_within shape s (WordComes c t v k n rest) w a old = record { held = old.held; busy = busy-gone shape c w.busy old.busy }
 step_within shape s (StoreComes c t v k n rest) w a old = record { held = old.held; busy = busy-gone shape c w.busy old.busy }
 step_within shape s (EvictComes c t v rest) w a old = record { held = old.held; busy = busy-gone shape c w.busy old.busy }
-step_within shape s (FillLoads c o t v k x ws rest) w a old = record { held = put-within shape s w.held _ old.held (entered shape w old s c v t x _ a.1 refl); busy = busy-gone shape c w.busy old.busy }
-step_within shape s (FillStores c o t v k n x ws rest) w a old = record { held = put-within shape s w.held _ old.held (entered shape w old s c v t M _ a.1 refl); busy = busy-gone shape c w.busy old.busy }
+step_within shape s (FillLoads c o t v k x ws rest) w a old =
+    record { held = put-within shape s w.held _ old.held (entered shape w old s c v t x _ a.1 refl); busy = busy-gone shape c w.busy old.busy }
+step_within shape s (FillStores c o t v k n x ws rest) w a old =
+    record { held = put-within shape s w.held _ old.held (entered shape w old s c v t M _ a.1 refl); busy = busy-gone shape c w.busy old.busy }
 step_within shape s (MemoryReads t rest) w a old = record { held = old.held; busy = old.busy }
 step_within shape s (MemoryWrites t ws rest) w a old = record { held = old.held; busy = old.busy }
 step_within shape s (MemoryWritesWord t k n rest) w a old = record { held = old.held; busy = old.busy }

@@ -26,7 +26,8 @@ flush-tag fl c v h = grind (arith, nat_tests)
 inv-tag : (t : ℕ) (a : Ack) (h : Entry) → (inv_effect t a h).tag ≡ h.tag
 inv-tag t a h = grind (arith, nat_tests)
 
-flush-write : (fl : Flush) (c v : ℕ) (h : ℕ → ℕ → Entry) → FlushAims fl h → is_writable (h c v).state ≡ false → is_writable (flush_effect fl c v (h c v)).state ≡ false
+flush-write : (fl : Flush) (c v : ℕ) (h : ℕ → ℕ → Entry) → FlushAims fl h → is_writable (h c v).state ≡ false
+    → is_writable (flush_effect fl c v (h c v)).state ≡ false
 flush-write NoFlush c v h a e = e
 flush-write (FlushSent o w t x) c v h a e = lem a.1 e
   where
@@ -49,7 +50,8 @@ module _ (r : ℕ) (b : InProgress) (fl : Flush) (inv : ℕ → Ack) (d h : ℕ 
   }
 
   open-write : (c v : ℕ) → is_writable (h c v).state ≡ false → is_writable (d c v).state ≡ false
-  open-write c v e = covered-write (d c v).state _ (copies.matches c v).covered (inv-write (op_tag b.op) (inv c) (flush_effect fl c v (h c v)) (flush-write fl c v h copies.standing.0 e))
+  open-write c v e =
+      covered-write (d c v).state _ (copies.matches c v).covered (inv-write (op_tag b.op) (inv c) (flush_effect fl c v (h c v)) (flush-write fl c v h copies.standing.0 e))
 
 -- the request's operation
 rd-placed : (op : Op) (w t v : ℕ) (h : ℕ → Entry) → request_of op w ≡ Rd t v → Placed op w h → (i : ℕ) → Holds (h i) t → ⊥
@@ -62,7 +64,8 @@ rd-placed (UcLoad u k) w t v h e p i l = absurd (cc e)
 rd-placed (UcStore u k n) w t v h e p i l = absurd (cc e)
 rd-placed (Evict u) w t v h e p i l = absurd (cc e)
 
-wr-placed : (op : Op) (w t v : ℕ) (h : ℕ → Entry) → request_of op w ≡ Wr t v → Placed op w h → (i : ℕ) → Holds (h i) t → (i ≡ v) × (is_writable (h i).state ≡ false)
+wr-placed : (op : Op) (w t v : ℕ) (h : ℕ → Entry) → request_of op w ≡ Wr t v → Placed op w h → (i : ℕ) → Holds (h i) t
+    → (i ≡ v) × (is_writable (h i).state ≡ false)
 wr-placed (Store u k n) w t v h e p i l = ((p i (subst (λ (j : ℕ). Holds (h i) j) (sym (tag e)) l)).0 ∙ way e, (p i (subst (λ (j : ℕ). Holds (h i) j) (sym (tag e)) l)).1)
   where
     tag : Wr u w ≡ Wr t v → u ≡ t
@@ -103,7 +106,8 @@ module _ (k : Shape) (w : World) (inv : Invariant k w) (s : ℕ) (x : Transactio
         lem (Some u) f = absurd (rd-placed o.busy.op o.busy.way t v (w.held s x.cache) (sym o.at.is_request ∙ e) placed u
             (subst (λ (i : ℕ). Holds (w.held s x.cache u) i) (ap request_tag e) (copy x.cache u (request_tag x.request) (found k.ways (w.directory s x.cache) (request_tag x.request) u f).1)))
 
-    wr-own : (t v : ℕ) → x.request ≡ Wr t v → (own_for k (w.directory s) x ≡ I) ⊎ ((own_way_for k (w.directory s) x ≡ Some v) × (is_writable (own_for k (w.directory s) x) ≡ false))
+    wr-own : (t v : ℕ) → x.request ≡ Wr t v
+        → (own_for k (w.directory s) x ≡ I) ⊎ ((own_way_for k (w.directory s) x ≡ Some v) × (is_writable (own_for k (w.directory s) x) ≡ false))
     wr-own t v e = lem (own_way_for k (w.directory s) x) refl
       where
         lem : (q : Option ℕ) → find k.ways (w.directory s x.cache) (request_tag x.request) ≡ q
@@ -174,7 +178,8 @@ module _ (k : Shape) (w : World) (inv : Invariant k w) (s : ℕ) (x : Transactio
       r = recorded.owner e f
 
       lem : (q : Option ℕ) → owner k.caches k.ways (w.directory s) x.cache (request_tag x.request) ≡ q → OwnerAt k (w.directory s) x e.cache e.way
-      lem None g = absurd (true≢false (sym r.owner_like ∙ owner-none k.caches k.ways (w.directory s) x.cache (request_tag x.request) g e.cache e.way r.range.cache r.range.way r.other r.holds))
+      lem None g =
+          absurd (true≢false (sym r.owner_like ∙ owner-none k.caches k.ways (w.directory s) x.cache (request_tag x.request) g e.cache e.way r.range.cache r.range.way r.other r.holds))
       lem (Some c) g = at (owner-some k.caches k.ways (w.directory s) x.cache (request_tag x.request) c g)
         where
           at : (c ≢ x.cache) × ((u : ℕ) × (owner_way k.ways (w.directory s) (request_tag x.request) c ≡ Some u) × (Holds (w.directory s c u) (request_tag x.request)) × (is_owner_like (w.directory s c u).state ≡ true))

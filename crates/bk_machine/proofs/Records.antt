@@ -19,7 +19,8 @@ use Rattle.bk_machine.proofs.View.{put-here}
 use Rattle.bk_machine.proofs.DirectoryReads.{Readable, OwnerIs, owner-at, owner-only, recipients}
 use Rattle.bk_machine.proofs.Opened.{opened, readable, record_of}
 
-pub step_record : (k : Shape) (s : ℕ) (a : Step) (w : World) → RecordOf k w.transaction w.directory → RecordOf k (step_after s a w).transaction (step_after s a w).directory
+pub step_record : (k : Shape) (s : ℕ) (a : Step) (w : World) → RecordOf k w.transaction w.directory
+    → RecordOf k (step_after s a w).transaction (step_after s a w).directory
 step_record k s (LoadHits c t v j) w old = old
 step_record k s (StoreHits c t v j n) w old = old
 step_record k s (Asks c v op) w old = old
@@ -88,7 +89,8 @@ module _ (k : Shape) (s : ℕ) (w : World) (inv : Invariant k w) where
   here : (x : Transaction) (d : ℕ → ℕ → Entry) → Recorded k x d → Recorded k x (put w.directory s d s)
   here x d r = subst (λ (e : ℕ → ℕ → Entry). Recorded k x e) (sym (put-here w.directory s d)) r
 
-  waits : (x : Transaction) (to : List ℕ) → ((c : ℕ) → times c to ≢ 0 → c < k.caches) → ((c : ℕ) → times c x.waiting ≢ 0 → c < k.caches) → (c : ℕ) → times c (x.waiting ++ to) ≢ 0 → c < k.caches
+  waits : (x : Transaction) (to : List ℕ) → ((c : ℕ) → times c to ≢ 0 → c < k.caches) → ((c : ℕ) → times c x.waiting ≢ 0 → c < k.caches) → (c : ℕ)
+      → times c (x.waiting ++ to) ≢ 0 → c < k.caches
   waits x to new old c n = decide (eqb (times c to) 0) refl
     where
       is : eqb (times c to) 0 ≡ true → times c to ≡ 0
@@ -113,7 +115,8 @@ module _ (k : Shape) (s : ℕ) (w : World) (inv : Invariant k w) where
       some_is q = cc
 
   -- the owner's debt of a transfer
-  transferred-by : (x : Transaction) (u : Ungranted s x w) (o v : ℕ) (y : Coh) (e : Debt) → OwnerAt k (w.directory s) x o v → owner_owes o v x y ≡ Some e → OwnerOwes k x.cache x.request (w.directory s) e
+  transferred-by : (x : Transaction) (u : Ungranted s x w) (o v : ℕ) (y : Coh) (e : Debt) → OwnerAt k (w.directory s) x o v → owner_owes o v x y ≡ Some e
+      → OwnerOwes k x.cache x.request (w.directory s) e
   transferred-by x u o v y e a f = subst (λ (d : Debt). OwnerOwes k x.cache x.request (w.directory s) d) (some_is f)
       (record {
         other = at.other;
@@ -148,7 +151,8 @@ module _ (k : Shape) (s : ℕ) (w : World) (inv : Invariant k w) where
 
   -- the record of a transaction that isn't granted, over any directory: it has no debts
   no-debts : (x : Transaction) (d : ℕ → ℕ → Entry) → Ungranted s x w → Recorded k x d
-  no-debts x d u = record { from = (old x u.is).from; unread = (old x u.is).unread; requester = (old x u.is).requester; owner = λ e f. absurd (no-owner x u.is u.ungranted e f) }
+  no-debts x d u =
+      record { from = (old x u.is).from; unread = (old x u.is).unread; requester = (old x u.is).requester; owner = λ e f. absurd (no-owner x u.is u.ungranted e f) }
 
   flushed : (x : Transaction) (o v : ℕ) (t : ℕ) (y : Coh) → Ungranted s x w → RecordOf k (flushes s o v t y x w).transaction (flushes s o v t y x w).directory
   flushed x o v t y u =
@@ -156,9 +160,11 @@ module _ (k : Shape) (s : ℕ) (w : World) (inv : Invariant k w) where
       here (record x { write_back = Asked }) _ (record { from = d.from; unread = d.unread; requester = d.requester; owner = d.owner })
 
   pub action_record : (a : Action) → Permitted k s a w → RecordOf k (action_after s a w).transaction (action_after s a w).directory
-  action_record (Takes c q rest) p = record { from = λ i n. absurd (n refl); unread = λ e. refl; requester = λ e f. absurd (cc f); owner = λ e f. absurd (cc f) }
+  action_record (Takes c q rest) p =
+      record { from = λ i n. absurd (n refl); unread = λ e. refl; requester = λ e f. absurd (cc f); owner = λ e f. absurd (cc f) }
   action_record (Settles c t rest) p = inv.recorded
-  action_record (CollectsAck c t rest x) p = let o = old x p.0.is in record { from = λ i n. o.from i (fewer-times c i x.waiting n); unread = o.unread; requester = o.requester; owner = o.owner }
+  action_record (CollectsAck c t rest x) p =
+      let o = old x p.0.is in record { from = λ i n. o.from i (fewer-times c i x.waiting n); unread = o.unread; requester = o.requester; owner = o.owner }
   action_record (CollectsAnswer c t ws rest x) p = let o = old x p.0.is in record { from = o.from; unread = o.unread; requester = o.requester; owner = o.owner }
   action_record (CollectsBlock t ws rest x) p =
       let o = old x p.0.is in
@@ -202,8 +208,10 @@ module _ (k : Shape) (s : ℕ) (w : World) (inv : Invariant k w) where
   action_record (GrantsByTransfer o v y z x) p =
       let r = old x p.0.ungranted.is in
       record { from = r.from; unread = r.unread; requester = λ e f. granted-by x z e p.5 f; owner = λ e f. transferred-by x p.0.ungranted o v y e p.3 f }
-  action_record (AnswersWord t i ws x) p = let o = old x p.0.ungranted.is in record { from = o.from; unread = o.unread; requester = o.requester; owner = o.owner }
-  action_record (AnswersStore t i n x) p = let o = old x p.0.ungranted.is in record { from = o.from; unread = o.unread; requester = o.requester; owner = o.owner }
+  action_record (AnswersWord t i ws x) p =
+      let o = old x p.0.ungranted.is in record { from = o.from; unread = o.unread; requester = o.requester; owner = o.owner }
+  action_record (AnswersStore t i n x) p =
+      let o = old x p.0.ungranted.is in record { from = o.from; unread = o.unread; requester = o.requester; owner = o.owner }
   action_record (AnswersEvict t v x) p = let o = old x p.0.ungranted.is in record { from = o.from; unread = o.unread; requester = o.requester; owner = o.owner }
   action_record (PaysRequester d x) p =
       let o = old x p.0 in

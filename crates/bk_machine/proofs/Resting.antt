@@ -12,7 +12,8 @@ use Rattle.bk_machine.proofs.View.{mine-here}
 use Rattle.bk_machine.specs.Invariant.{EveryGroup}
 
 -- of a phase with nothing on its way
-at_rest : (p : Phase) → ((c : ℕ) → commands_of p c ≡ []) → ((c o : ℕ) → fills_of p c o ≡ []) → ((c : ℕ) → responses_of p c ≡ []) → TransactionAt p None → p ≡ Free
+at_rest : (p : Phase) → ((c : ℕ) → commands_of p c ≡ []) → ((c o : ℕ) → fills_of p c o ≡ []) → ((c : ℕ) → responses_of p c ≡ []) → TransactionAt p None
+    → p ≡ Free
 at_rest Free a b d t = refl
 at_rest (Open r b fl inv) a f d t = absurd t
 at_rest (Flying r b f) a e d t = absurd (moving f a (e r))

@@ -33,7 +33,8 @@ inv_to to t command c = cond (eqb (times c to) 1) (command c ++ Inv t ∷ []) (c
 abbrev pub sent_to : List ℕ → (ℕ → Ack) → ℕ → Ack
 sent_to to inv c = cond (eqb (times c to) 1) InvSent (inv c)
 
-wiped_all-same : (to : List ℕ) (t : ℕ) (directory : ℕ → ℕ → Entry) (c w u : ℕ) → Holds (wiped_all to t directory c w) u → wiped_all to t directory c w ≡ directory c w
+wiped_all-same : (to : List ℕ) (t : ℕ) (directory : ℕ → ℕ → Entry) (c w u : ℕ) → Holds (wiped_all to t directory c w) u
+    → wiped_all to t directory c w ≡ directory c w
 wiped_all-same to t directory c w u k = grind arith
 
 wiped_all-fewer : (to : List ℕ) (t : ℕ) (directory : ℕ → ℕ → Entry) → Fewer (wiped_all to t directory) directory
@@ -68,13 +69,15 @@ module _ (g : Group) (r : ℕ) (b : InProgress) (wb : WriteBack) (rd : Reading) 
   sent-responses : (c : ℕ) → g.response c ≡ responses_of (Open r b fl (sent_to to inv)) c
   sent-responses c = lem (no_inv_yet c) (good.responses c)
     where
-      lem : (times c to ≡ 1 → inv c ≡ NoInv) → g.response c ≡ flush_response fl c ++ inv_response (op_tag b.op) (inv c) → g.response c ≡ responses_of (Open r b fl (sent_to to inv)) c
+      lem : (times c to ≡ 1 → inv c ≡ NoInv) → g.response c ≡ flush_response fl c ++ inv_response (op_tag b.op) (inv c)
+          → g.response c ≡ responses_of (Open r b fl (sent_to to inv)) c
       lem f e = grind (arith, nat_tests)
 
   sent-due : (c : ℕ) → times c (ws ++ to) ≡ due (sent_to to inv c)
   sent-due c = lem (no_inv_yet c) (once c) (good.transaction.acks c) (times-append c ws to)
     where
-      lem : (times c to ≡ 1 → inv c ≡ NoInv) → times c to ≤ 1 → times c ws ≡ due (inv c) → times c (ws ++ to) ≡ times c ws + times c to → times c (ws ++ to) ≡ due (sent_to to inv c)
+      lem : (times c to ≡ 1 → inv c ≡ NoInv) → times c to ≤ 1 → times c ws ≡ due (inv c) → times c (ws ++ to) ≡ times c ws + times c to
+          → times c (ws ++ to) ≡ due (sent_to to inv c)
       lem f e k l = grind (arith, nat_tests)
 
   sent-matches : (c w : ℕ) → Matches (wiped_all to (op_tag b.op) g.directory c w) (expected (Open r b fl (sent_to to inv)) c w (g.held c w))
@@ -84,7 +87,8 @@ module _ (g : Group) (r : ℕ) (b : InProgress) (wb : WriteBack) (rd : Reading) 
           → Matches (wiped_all to (op_tag b.op) g.directory c w) (inv_effect (op_tag b.op) (sent_to to inv c) (flush_effect fl c w (g.held c w)))
       lem f m = at (flush_effect fl c w (g.held c w)) (g.directory c w) m
         where
-          at : (e d : Entry) → Matches d (inv_effect (op_tag b.op) (inv c) e) → Matches (cond (eqb (times c to) 1) (wiped (op_tag b.op) d) d) (inv_effect (op_tag b.op) (sent_to to inv c) e)
+          at : (e d : Entry) → Matches d (inv_effect (op_tag b.op) (inv c) e)
+              → Matches (cond (eqb (times c to) 1) (wiped (op_tag b.op) d) d) (inv_effect (op_tag b.op) (sent_to to inv c) e)
           at e d m = grind (arith, nat_tests)
 
   sent-gone : (c w : ℕ) → sent_to to inv c ≢ NoInv → Holds (wiped_all to (op_tag b.op) g.directory c w) (op_tag b.op) → ⊥

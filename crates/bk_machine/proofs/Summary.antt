@@ -12,7 +12,8 @@ pub first-some : (n : ℕ) (p : ℕ → Bool) (v : ℕ) → first n p ≡ Some v
 first-some zero p v e = absurd (cc e)
 first-some (suc n) p v e = step (first n p) (p n) refl (first-some n p v) e
   where
-    step : (o : Option ℕ) (b : Bool) → p n ≡ b → (o ≡ Some v → (v < n) × (p v ≡ true)) → elim o as (λ q. Option ℕ) [ Some u ↦ Some u | None ↦ cond b (Some n) None ] ≡ Some v → (v < suc n) × (p v ≡ true)
+    step : (o : Option ℕ) (b : Bool) → p n ≡ b → (o ≡ Some v → (v < n) × (p v ≡ true))
+        → elim o as (λ q. Option ℕ) [ Some u ↦ Some u | None ↦ cond b (Some n) None ] ≡ Some v → (v < suc n) × (p v ≡ true)
     step (Some u) b q f e = (up (f e).0, (f e).1)
       where
         up : v < n → v < suc n
@@ -30,7 +31,8 @@ pub first-none : (n : ℕ) (p : ℕ → Bool) → first n p ≡ None → (v : �
 first-none zero p e v l = absurd (omega arith)
 first-none (suc n) p e v l = step (first n p) (p n) refl (λ q. first-none n p q v) e
   where
-    step : (o : Option ℕ) (b : Bool) → p n ≡ b → (o ≡ None → v < n → p v ≡ false) → elim o as (λ q. Option ℕ) [ Some u ↦ Some u | None ↦ cond b (Some n) None ] ≡ None → p v ≡ false
+    step : (o : Option ℕ) (b : Bool) → p n ≡ b → (o ≡ None → v < n → p v ≡ false)
+        → elim o as (λ q. Option ℕ) [ Some u ↦ Some u | None ↦ cond b (Some n) None ] ≡ None → p v ≡ false
     step (Some u) b q f e = absurd (cc e)
     step None true q f e = absurd (cc e)
     step None false q f e = last (eqb v n) refl
@@ -66,7 +68,8 @@ pub times-those : (n : ℕ) (p : ℕ → Bool) (c : ℕ) → times c (those n p)
 times-those zero p c = grind (arith, nat_tests)
 times-those (suc n) p c = step (p n) refl (times-those n p c)
   where
-    step : (b : Bool) → p n ≡ b → times c (those n p) ≡ cond (ltb c n && p c) 1 0 → times c (cond b (n ∷ those n p) (those n p)) ≡ cond (ltb c (suc n) && p c) 1 0
+    step : (b : Bool) → p n ≡ b → times c (those n p) ≡ cond (ltb c n && p c) 1 0
+        → times c (cond b (n ∷ those n p) (those n p)) ≡ cond (ltb c (suc n) && p c) 1 0
     step true q e = at (eqb c n) refl e
       where
         here : eqb c n ≡ true → p n ≡ true → p c ≡ true
@@ -75,10 +78,12 @@ times-those (suc n) p c = step (p n) refl (times-those n p c)
             is : eqb c n ≡ true → n ≡ c
             is e = grind (arith, nat_tests)
 
-        at : (y : Bool) → eqb c n ≡ y → times c (those n p) ≡ cond (ltb c n && p c) 1 0 → cond (eqb c n) 1 0 + times c (those n p) ≡ cond (ltb c (suc n) && p c) 1 0
+        at : (y : Bool) → eqb c n ≡ y → times c (those n p) ≡ cond (ltb c n && p c) 1 0
+            → cond (eqb c n) 1 0 + times c (those n p) ≡ cond (ltb c (suc n) && p c) 1 0
         at true f e = lem (p c) (here f q) e
           where
-            lem : (z : Bool) → z ≡ true → times c (those n p) ≡ cond (ltb c n && z) 1 0 → cond (eqb c n) 1 0 + times c (those n p) ≡ cond (ltb c (suc n) && z) 1 0
+            lem : (z : Bool) → z ≡ true → times c (those n p) ≡ cond (ltb c n && z) 1 0
+                → cond (eqb c n) 1 0 + times c (those n p) ≡ cond (ltb c (suc n) && z) 1 0
             lem z g e = grind (arith, nat_tests)
         at false f e = lem (p c) e
           where
@@ -103,13 +108,16 @@ times-those (suc n) p c = step (p n) refl (times-those n p c)
             lem z e = grind (arith, nat_tests)
 
 -- no owner: no other cache has the tag in an owner-like state
-pub owner-none : (caches ways : ℕ) (d : ℕ → ℕ → Entry) (r t : ℕ) → owner caches ways d r t ≡ None → (c v : ℕ) → c < caches → v < ways → c ≢ r → Holds (d c v) t → is_owner_like (d c v).state ≡ false
+pub owner-none : (caches ways : ℕ) (d : ℕ → ℕ → Entry) (r t : ℕ) → owner caches ways d r t ≡ None → (c v : ℕ) → c < caches → v < ways → c ≢ r → Holds (d c v) t
+    → is_owner_like (d c v).state ≡ false
 owner-none caches ways d r t e c v l m n k = lem (owner_way ways d t c) refl (first-none caches _ e c l) (λ q. first-none ways _ q v m)
   where
-    lem : (o : Option ℕ) → owner_way ways d t c ≡ o → (not (eqb c r) && some o) ≡ false → (o ≡ None → (holds (d c v) t && is_owner_like (d c v).state) ≡ false) → is_owner_like (d c v).state ≡ false
+    lem : (o : Option ℕ) → owner_way ways d t c ≡ o → (not (eqb c r) && some o) ≡ false → (o ≡ None → (holds (d c v) t && is_owner_like (d c v).state) ≡ false)
+        → is_owner_like (d c v).state ≡ false
     lem o q f g = grind (arith, nat_tests)
 
-pub owner-some : (caches ways : ℕ) (d : ℕ → ℕ → Entry) (r t o : ℕ) → owner caches ways d r t ≡ Some o → (o ≢ r) × ((v : ℕ) × (owner_way ways d t o ≡ Some v) × (Holds (d o v) t) × (is_owner_like (d o v).state ≡ true))
+pub owner-some : (caches ways : ℕ) (d : ℕ → ℕ → Entry) (r t o : ℕ) → owner caches ways d r t ≡ Some o
+    → (o ≢ r) × ((v : ℕ) × (owner_way ways d t o ≡ Some v) × (Holds (d o v) t) × (is_owner_like (d o v).state ≡ true))
 owner-some caches ways d r t o e = lem (owner_way ways d t o) refl (first-some caches _ o e).1 (λ v. first-some ways _ v)
   where
     other : (x : Bool) → (not (eqb o r) && x) ≡ true → o ≢ r
@@ -121,7 +129,8 @@ owner-some caches ways d r t o e = lem (owner_way ways d t o) refl (first-some c
     is_owner : (v : ℕ) → (holds (d o v) t && is_owner_like (d o v).state) ≡ true → is_owner_like (d o v).state ≡ true
     is_owner v f = grind arith
 
-    lem : (w : Option ℕ) → owner_way ways d t o ≡ w → (not (eqb o r) && some w) ≡ true → ((v : ℕ) → w ≡ Some v → (v < ways) × ((holds (d o v) t && is_owner_like (d o v).state) ≡ true))
+    lem : (w : Option ℕ) → owner_way ways d t o ≡ w → (not (eqb o r) && some w) ≡ true
+        → ((v : ℕ) → w ≡ Some v → (v < ways) × ((holds (d o v) t && is_owner_like (d o v).state) ≡ true))
         → (o ≢ r) × ((v : ℕ) × (owner_way ways d t o ≡ Some v) × (Holds (d o v) t) × (is_owner_like (d o v).state ≡ true))
     lem None q f g = absurd (none (eqb o r) f)
       where
@@ -155,7 +164,8 @@ module _ (caches ways : ℕ) (d : ℕ → ℕ → Entry) (r t : ℕ) where
       light : (v : ℕ) → (holds (d c v) t && is_shared (d c v).state) ≡ true → is_light (d c v).state ≡ true
       light v f = grind arith
 
-      lem : (o : Option ℕ) → first ways (λ v. holds (d c v) t && is_shared (d c v).state) ≡ o → ((v : ℕ) → o ≡ Some v → (v < ways) × ((holds (d c v) t && is_shared (d c v).state) ≡ true))
+      lem : (o : Option ℕ) → first ways (λ v. holds (d c v) t && is_shared (d c v).state) ≡ o
+          → ((v : ℕ) → o ≡ Some v → (v < ways) × ((holds (d c v) t && is_shared (d c v).state) ≡ true))
           → ◌≡◌ {A = ℕ} (cond (ltb c caches && (not (eqb c r) && some o)) 1 0) 1 → (v : ℕ) × (Holds (d c v) t) × (is_light (d c v).state ≡ true)
       lem None q g e = absurd (none (ltb c caches) (not (eqb c r)) e)
       lem (Some v) q g e = (v, is_holds v (g v refl).1, light v (g v refl).1)

@@ -56,7 +56,8 @@ module _ (g : Group) (r o ow : ℕ) (b : InProgress) (rd : Reading) (wr : Bool) 
       holds : (c w u : ℕ) → Holds (with_entry o ow (op_tag b.op) y g.directory c w) u → Holds (g.directory o ow) (op_tag b.op) → Holds (g.directory c w) u
       holds c w u k l = grind (arith, nat_tests)
 
-      writes : (c w u : ℕ) → is_writable (g.directory c w).state ≡ false → is_writable y ≡ false → is_writable (with_entry o ow (op_tag b.op) y g.directory c w).state ≡ false
+      writes : (c w u : ℕ) → is_writable (g.directory c w).state ≡ false → is_writable y ≡ false
+          → is_writable (with_entry o ow (op_tag b.op) y g.directory c w).state ≡ false
       writes c w u e f = grind (arith, nat_tests)
 
   owner1 : OneOwner (with_entry o ow (op_tag b.op) y g.directory)
@@ -72,10 +73,12 @@ module _ (g : Group) (r o ow : ℕ) (b : InProgress) (rd : Reading) (wr : Bool) 
   here v n k = placed-op b.op b.way (g.held r) kind (good.placed r b good.taker) v n (covered-holds _ _ _ (m r v) (fewer.holds r v (op_tag b.op) k))
 
   -- what the pair leaves to the others: nothing, or S
-  fit : (c w : ℕ) → c ≢ r → Holds (with_entry o ow (op_tag b.op) y g.directory c w) (op_tag b.op) → fits x (with_entry o ow (op_tag b.op) y g.directory c w).state ≡ true
+  fit : (c w : ℕ) → c ≢ r → Holds (with_entry o ow (op_tag b.op) y g.directory c w) (op_tag b.op)
+      → fits x (with_entry o ow (op_tag b.op) y g.directory c w).state ≡ true
   fit c w n k = lem (eqb c o) refl
     where
-      at_owner : c ≡ o → (Holds (g.directory o ow) (op_tag b.op) → Holds (g.directory o w) (op_tag b.op) → ow ≡ w) → Holds (g.directory c w) (op_tag b.op) → fits x (with_entry o ow (op_tag b.op) y g.directory c w).state ≡ true
+      at_owner : c ≡ o → (Holds (g.directory o ow) (op_tag b.op) → Holds (g.directory o w) (op_tag b.op) → ow ≡ w) → Holds (g.directory c w) (op_tag b.op)
+          → fits x (with_entry o ow (op_tag b.op) y g.directory c w).state ≡ true
       at_owner e one l = pairs (g.directory o ow).state pair (one has (subst (λ (i : ℕ). Holds (g.directory i w) (op_tag b.op)) e l))
         where
           pairs : (z : Coh) → may_pair z y x ≡ true → ow ≡ w → fits x (with_entry o ow (op_tag b.op) y g.directory c w).state ≡ true
@@ -103,10 +106,12 @@ module _ (g : Group) (r o ow : ℕ) (b : InProgress) (rd : Reading) (wr : Bool) 
   unfolding put
   transfer-commands c = lem (quiet-commands g r b rd wr inv good c) (quiet-commands g r b rd wr inv good o)
     where
-      lem : g.command c ≡ [] → g.command o ≡ [] → cond (eqb c o) (g.command o ++ StTr (op_tag b.op) y r b.way x ∷ []) (g.command c) ≡ at_cache c o (StTr (op_tag b.op) y r b.way x)
+      lem : g.command c ≡ [] → g.command o ≡ []
+          → cond (eqb c o) (g.command o ++ StTr (op_tag b.op) y r b.way x ∷ []) (g.command c) ≡ at_cache c o (StTr (op_tag b.op) y r b.way x)
       lem e f = grind (arith, nat_tests)
 
-  transfer-matches : (c w : ℕ) → Matches (with_entry r b.way (op_tag b.op) x (with_entry o ow (op_tag b.op) y g.directory) c w) (flight_effect (ByTransfer o ow y x) r b c w (g.held c w))
+  transfer-matches : (c w : ℕ)
+      → Matches (with_entry r b.way (op_tag b.op) x (with_entry o ow (op_tag b.op) y g.directory) c w) (flight_effect (ByTransfer o ow y x) r b c w (g.held c w))
   transfer-matches c w = lem (m c w) has
     where
       lem : Matches (g.directory c w) (g.held c w) → Holds (g.directory o ow) (op_tag b.op)

@@ -49,7 +49,8 @@ module _ (g : Group) (r c w t : ℕ) (y x : Coh) (b : InProgress) (rest : List T
   unfolding put2
   transfer-light = grind (arith, nat_tests, good.copies.standing)
 
-  transfer-clean : (u k : ℕ) → AtHome after g.transaction (put2 g.held c w (with_state (g.held c w) y)) u k → (i v : ℕ) → Holds (g.held i v) u → is_dirty (g.held i v).state ≡ false
+  transfer-clean : (u k : ℕ) → AtHome after g.transaction (put2 g.held c w (with_state (g.held c w) y)) u k → (i v : ℕ) → Holds (g.held i v) u
+      → is_dirty (g.held i v).state ≡ false
   unfolding put2
   transfer-clean u k home i v l = grind (arith, nat_tests, good.copies.standing, home.clean i v, home.not_flying)
 

@@ -23,7 +23,8 @@ finished g c t op n rest = record g {
 }
 
 module _ (g : Group) (c w : ℕ) (op : Op) (f : Flight) (rest : List ToCache) (good : Good (Flying c (record { op = op; way = w }) f) g) (last : rest ≡ []) where
-  finished-commands : (t : ℕ) → ((i : ℕ) → i ≢ c → flight_command f c (record { op = op; way = w }) i ≡ []) → (i : ℕ) → put g.command c rest i ≡ commands_of (Settling c t) i
+  finished-commands : (t : ℕ) → ((i : ℕ) → i ≢ c → flight_command f c (record { op = op; way = w }) i ≡ []) → (i : ℕ)
+      → put g.command c rest i ≡ commands_of (Settling c t) i
   unfolding put
   finished-commands t none i = grind (arith, nat_tests, good.commands i, none i)
 
@@ -40,7 +41,8 @@ module _ (g : Group) (c w : ℕ) (op : Op) (f : Flight) (rest : List ToCache) (g
   was_busy i b e = grind (arith, nat_tests)
 
   -- where the operation's values v come to be the latest, and nothing of the copies changes
-  finished-good : (t n : ℕ) → ((i : ℕ) → i ≢ c → flight_command f c (record { op = op; way = w }) i ≡ []) → ((i o : ℕ) → flight_fill f c (record { op = op; way = w }) i o ≡ [])
+  finished-good : (t n : ℕ) → ((i : ℕ) → i ≢ c → flight_command f c (record { op = op; way = w }) i ≡ [])
+      → ((i o : ℕ) → flight_fill f c (record { op = op; way = w }) i o ≡ [])
       → ((i v : ℕ) (h : Entry) → flight_effect f c (record { op = op; way = w }) i v h ≡ h)
       → answer_is op (latest g.history) n
       → Values (Settling c t) g.transaction g.held g.words (after_op op (latest g.history)) (effective g.memory g.memout)
@@ -98,7 +100,8 @@ module _ (g : Group) (c t w k n : ℕ) (good : Good (Flying c (record { op = UcS
   store-words : (u i v j : ℕ) → Holds (g.held i v) u → g.words i v j ≡ after_op (UcStore t k n) (latest g.history) u j
   store-words u i v j l = grind (arith, nat_tests, good.values.copies u i v j, good.values.flying.1 i v)
 
-  store-memory : (u j : ℕ) → AtHome (Settling c t) g.transaction g.held u j → (stores_at (UcStore t k n) u j ≡ false → effective g.memory g.memout u j ≡ latest g.history u j)
+  store-memory : (u j : ℕ) → AtHome (Settling c t) g.transaction g.held u j
+      → (stores_at (UcStore t k n) u j ≡ false → effective g.memory g.memout u j ≡ latest g.history u j)
       → effective g.memory g.memout u j ≡ after_op (UcStore t k n) (latest g.history) u j
   store-memory u j home e = grind (arith, nat_tests, good.values.flying.0)
 

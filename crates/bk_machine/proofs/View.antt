@@ -16,7 +16,8 @@ only-push s [] x = ap (λ (y : Bool). cond y (x ∷ []) []) (same s)
     same s = grind (arith, nat_tests)
 only-push {X} s (y ∷ ys) x = step (eqb s y.0) (only-push s ys x)
   where
-    step : (b : Bool) → only s (ys ++ (s, x) ∷ []) ≡ only s ys ++ x ∷ [] → cond b (y.1 ∷ only s (ys ++ (s, x) ∷ [])) (only s (ys ++ (s, x) ∷ [])) ≡ cond b (y.1 ∷ only s ys) (only s ys) ++ x ∷ []
+    step : (b : Bool) → only s (ys ++ (s, x) ∷ []) ≡ only s ys ++ x ∷ []
+        → cond b (y.1 ∷ only s (ys ++ (s, x) ∷ [])) (only s (ys ++ (s, x) ∷ [])) ≡ cond b (y.1 ∷ only s ys) (only s ys) ++ x ∷ []
     step true e = ap (λ (zs : List X). y.1 ∷ zs) e
     step false e = e
 
@@ -27,7 +28,8 @@ only-push_other u s [] x n = ap (λ (y : Bool). cond y (x ∷ []) []) (other u s
     other u s n = grind (arith, nat_tests)
 only-push_other {X} u s (y ∷ ys) x n = step (eqb u y.0) (only-push_other u s ys x n)
   where
-    step : (b : Bool) → only u (ys ++ (s, x) ∷ []) ≡ only u ys → cond b (y.1 ∷ only u (ys ++ (s, x) ∷ [])) (only u (ys ++ (s, x) ∷ [])) ≡ cond b (y.1 ∷ only u ys) (only u ys)
+    step : (b : Bool) → only u (ys ++ (s, x) ∷ []) ≡ only u ys
+        → cond b (y.1 ∷ only u (ys ++ (s, x) ∷ [])) (only u (ys ++ (s, x) ∷ [])) ≡ cond b (y.1 ∷ only u ys) (only u ys)
     step true e = ap (λ (zs : List X). y.1 ∷ zs) e
     step false e = e
 
@@ -84,7 +86,8 @@ chan-put_same {X} {Y} h f c x e = fun_ext (λ i. step i (eqb i c) refl)
     step i true q = e ∙ ap (λ (j : ℕ). h (f j)) (is i q)
     step i false q = refl
 
-pub chan2-put : {X Y : Type 0} (h : X → Y) (f : ℕ → ℕ → X) (c o : ℕ) (x : X) → ◌≡◌ {A = ℕ → ℕ → Y} (λ i j. h (put2 f c o x i j)) (put2 (λ i j. h (f i j)) c o (h x))
+pub chan2-put : {X Y : Type 0} (h : X → Y) (f : ℕ → ℕ → X) (c o : ℕ) (x : X)
+    → ◌≡◌ {A = ℕ → ℕ → Y} (λ i j. h (put2 f c o x i j)) (put2 (λ i j. h (f i j)) c o (h x))
 unfolding put2
 chan2-put h f c o x = fun_ext (λ i. fun_ext (λ j. step i j (eqb i c && eqb j o)))
   where
@@ -92,7 +95,8 @@ chan2-put h f c o x = fun_ext (λ i. fun_ext (λ j. step i j (eqb i c && eqb j o
     step i j true = refl
     step i j false = refl
 
-pub chan2-put_same : {X Y : Type 0} (h : X → Y) (f : ℕ → ℕ → X) (c o : ℕ) (x : X) → h x ≡ h (f c o) → ◌≡◌ {A = ℕ → ℕ → Y} (λ i j. h (put2 f c o x i j)) (λ i j. h (f i j))
+pub chan2-put_same : {X Y : Type 0} (h : X → Y) (f : ℕ → ℕ → X) (c o : ℕ) (x : X) → h x ≡ h (f c o)
+    → ◌≡◌ {A = ℕ → ℕ → Y} (λ i j. h (put2 f c o x i j)) (λ i j. h (f i j))
 unfolding put2
 chan2-put_same {X} {Y} h f c o x e = fun_ext (λ i. fun_ext (λ j. step i j (eqb i c && eqb j o) refl))
   where

@@ -32,44 +32,52 @@ with_memin-is g bs e = ap (λ (y : List Block). record g { memin = y }) e
 -- ARRIVALS
 
 module _ (g : Group) (c t w k : ℕ) (p : Phase) (good : Good p g) where
-  pub block_loads : (x : Coh) (ws : ℕ → ℕ) (rest : List ToCache) → g.command c ≡ Blk t w x ws ∷ rest → g.busy c ≡ Some (record { op = Load t k; way = w }) → Fine (take_command (loaded g c t w x ws k) c rest)
+  pub block_loads : (x : Coh) (ws : ℕ → ℕ) (rest : List ToCache) → g.command c ≡ Blk t w x ws ∷ rest → g.busy c ≡ Some (record { op = Load t k; way = w })
+      → Fine (take_command (loaded g c t w x ws k) c rest)
   block_loads x ws rest e f =
       let head : (p ≡ Flying c (record { op = Load t k; way = w }) (ByBlock x ws)) × (rest ≡ []) = blk_head p g.busy c t w x ws rest _ (sym (good.commands c) ∙ e) good.taker f in
       (_, block_loaded g c t w k x ws rest (subst (λ (p : Phase). Good p g) head.0 good) head.1)
 
-  pub block_stores : (n : ℕ) (x : Coh) (ws : ℕ → ℕ) (rest : List ToCache) → g.command c ≡ Blk t w x ws ∷ rest → g.busy c ≡ Some (record { op = Store t k n; way = w }) → is_writable x ≡ true → Fine (take_command (stored g c t w ws k n) c rest)
+  pub block_stores : (n : ℕ) (x : Coh) (ws : ℕ → ℕ) (rest : List ToCache) → g.command c ≡ Blk t w x ws ∷ rest
+      → g.busy c ≡ Some (record { op = Store t k n; way = w }) → is_writable x ≡ true → Fine (take_command (stored g c t w ws k n) c rest)
   block_stores n x ws rest e f writes =
       let head : (p ≡ Flying c (record { op = Store t k n; way = w }) (ByBlock x ws)) × (rest ≡ []) = blk_head p g.busy c t w x ws rest _ (sym (good.commands c) ∙ e) good.taker f in
       (_, block_stored g c t w k n x ws rest (subst (λ (p : Phase). Good p g) head.0 good) writes head.1)
 
-  pub wake_stores : (n : ℕ) (rest : List ToCache) → g.command c ≡ StWake t w ∷ rest → g.busy c ≡ Some (record { op = Store t k n; way = w }) → Fine (take_command (stored g c t w (g.words c w) k n) c rest)
+  pub wake_stores : (n : ℕ) (rest : List ToCache) → g.command c ≡ StWake t w ∷ rest → g.busy c ≡ Some (record { op = Store t k n; way = w })
+      → Fine (take_command (stored g c t w (g.words c w) k n) c rest)
   wake_stores n rest e f =
       let head : (p ≡ Flying c (record { op = Store t k n; way = w }) ByWake) × (rest ≡ []) = wake_head p g.busy c t w rest _ (sym (good.commands c) ∙ e) good.taker f in
       (_, wake_stored g c t w k n rest (subst (λ (p : Phase). Good p g) head.0 good) head.1)
 
-  pub fill_loads : (o : ℕ) (x : Coh) (ws : ℕ → ℕ) (rest : List FillMessage) → g.fill c o ≡ record { tag = t; way = w; state = x; words = ws } ∷ rest → g.busy c ≡ Some (record { op = Load t k; way = w })
+  pub fill_loads : (o : ℕ) (x : Coh) (ws : ℕ → ℕ) (rest : List FillMessage) → g.fill c o ≡ record { tag = t; way = w; state = x; words = ws } ∷ rest
+      → g.busy c ≡ Some (record { op = Load t k; way = w })
       → Fine (take_fill (loaded g c t w x ws k) c o rest)
   fill_loads o x ws rest e f =
       let head : (p ≡ Flying c (record { op = Load t k; way = w }) (ByFill o x ws)) × (rest ≡ []) = fill_head p g.busy c o (record { tag = t; way = w; state = x; words = ws }) rest _ (sym (good.fills c o) ∙ e) good.taker f in
       (_, fill_loaded g c o t w k x ws rest (subst (λ (p : Phase). Good p g) head.0 good) head.1)
 
-  pub fill_stores : (n o : ℕ) (x : Coh) (ws : ℕ → ℕ) (rest : List FillMessage) → g.fill c o ≡ record { tag = t; way = w; state = x; words = ws } ∷ rest → g.busy c ≡ Some (record { op = Store t k n; way = w }) → is_writable x ≡ true
+  pub fill_stores : (n o : ℕ) (x : Coh) (ws : ℕ → ℕ) (rest : List FillMessage) → g.fill c o ≡ record { tag = t; way = w; state = x; words = ws } ∷ rest
+      → g.busy c ≡ Some (record { op = Store t k n; way = w }) → is_writable x ≡ true
       → Fine (take_fill (stored g c t w ws k n) c o rest)
   fill_stores n o x ws rest e f writes =
       let head : (p ≡ Flying c (record { op = Store t k n; way = w }) (ByFill o x ws)) × (rest ≡ []) = fill_head p g.busy c o (record { tag = t; way = w; state = x; words = ws }) rest _ (sym (good.fills c o) ∙ e) good.taker f in
       (_, fill_stored g c o t w k n x ws rest (subst (λ (p : Phase). Good p g) head.0 good) writes head.1)
 
-  pub word_arrives : (n : ℕ) (rest : List ToCache) → g.command c ≡ UcBlk t k n ∷ rest → g.busy c ≡ Some (record { op = UcLoad t k; way = w }) → Fine (finished g c t (UcLoad t k) n rest)
+  pub word_arrives : (n : ℕ) (rest : List ToCache) → g.command c ≡ UcBlk t k n ∷ rest → g.busy c ≡ Some (record { op = UcLoad t k; way = w })
+      → Fine (finished g c t (UcLoad t k) n rest)
   word_arrives n rest e f =
       let head : (p ≡ Flying c (record { op = UcLoad t k; way = w }) (ByWord n)) × (rest ≡ []) = word_head p g.busy c t k n rest _ (sym (good.commands c) ∙ e) good.taker f in
       (_, word_comes g c t w k n rest (subst (λ (p : Phase). Good p g) head.0 good) head.1)
 
-  pub store_arrives : (n : ℕ) (rest : List ToCache) → g.command c ≡ UcDone t k ∷ rest → g.busy c ≡ Some (record { op = UcStore t k n; way = w }) → Fine (finished g c t (UcStore t k n) 0 rest)
+  pub store_arrives : (n : ℕ) (rest : List ToCache) → g.command c ≡ UcDone t k ∷ rest → g.busy c ≡ Some (record { op = UcStore t k n; way = w })
+      → Fine (finished g c t (UcStore t k n) 0 rest)
   store_arrives n rest e f =
       let head : (p ≡ Flying c (record { op = UcStore t k n; way = w }) ByDone) × (rest ≡ []) = uc_done_head p g.busy c t k rest _ (sym (good.commands c) ∙ e) good.taker f in
       (_, store_comes g c t w k n rest (subst (λ (p : Phase). Good p g) head.0 good) head.1)
 
-  pub evict_arrives : (rest : List ToCache) → g.command c ≡ Done t ∷ rest → g.busy c ≡ Some (record { op = Evict t; way = w }) → Fine (finished g c t (Evict t) 0 rest)
+  pub evict_arrives : (rest : List ToCache) → g.command c ≡ Done t ∷ rest → g.busy c ≡ Some (record { op = Evict t; way = w })
+      → Fine (finished g c t (Evict t) 0 rest)
   evict_arrives rest e f =
       let head : (p ≡ Flying c (record { op = Evict t; way = w }) ByDone) × (rest ≡ []) = done_head p g.busy c t rest _ (sym (good.commands c) ∙ e) good.taker f in
       (_, evict_comes g c t w rest (subst (λ (p : Phase). Good p g) head.0 good) head.1)
@@ -103,7 +111,8 @@ pub record Opened (g : Group) (x : Transaction) : Type 0 where
 pub opened : (p : Phase) (g : Group) (x : Transaction) → Good p g → g.transaction ≡ Some x → x.granted ≡ false → Opened g x
 opened p g x good e f = at p (subst (λ (h : Group). Good p h) (with_transaction-is g (Some x) e) good)
   where
-    shape : (r : ℕ) (b : InProgress) (fl : Flush) (inv : ℕ → Ack) → OpenTransaction r b fl inv x → x ≡ open_transaction r b x.write_back x.reading x.written x.waiting
+    shape : (r : ℕ) (b : InProgress) (fl : Flush) (inv : ℕ → Ack) → OpenTransaction r b fl inv x
+        → x ≡ open_transaction r b x.write_back x.reading x.written x.waiting
     shape r b fl inv o = λ i. record {
       cache = o.is_cache i;
       request = o.is_request i;

@@ -14,7 +14,8 @@ use Rattle.bk_machine.proofs.Collect.{ack_good, back_good, got_good}
 use Rattle.bk_machine.proofs.Send.{invalidate_good, inv_to, sent_to, request-tag}
 use Rattle.bk_machine.proofs.Wraps.{Fine, Opened, opened}
 
-back_head : (c t : ℕ) (words : Option (ℕ → ℕ)) (rest : List Response) (fl : Flush) (u : ℕ) (a : Ack) → flush_response fl c ++ inv_response u a ≡ answer_of t words ∷ rest
+back_head : (c t : ℕ) (words : Option (ℕ → ℕ)) (rest : List Response) (fl : Flush) (u : ℕ) (a : Ack)
+    → flush_response fl c ++ inv_response u a ≡ answer_of t words ∷ rest
     → (fl ≡ FlushDone c t words) × (rest ≡ inv_response u a)
 back_head c t None rest fl u a e = lem fl u a e
   where
@@ -31,7 +32,8 @@ idle_flush (FlushSent o w t x) s = absurd s
 idle_flush (FlushDone o t ws) s = absurd s
 
 module _ (p : Phase) (g : Group) (x : Transaction) (good : Good p g) (is : g.transaction ≡ Some x) (ungranted : x.granted ≡ false) where
-  pub acks : (c t : ℕ) (rest : List Response) → g.response c ≡ InvAck t ∷ rest → Fine (record g { response = put g.response c rest; transaction = Some (record x { waiting = remove_one c x.waiting }) })
+  pub acks : (c t : ℕ) (rest : List Response) → g.response c ≡ InvAck t ∷ rest
+      → Fine (record g { response = put g.response c rest; transaction = Some (record x { waiting = remove_one c x.waiting }) })
   acks c t rest e =
       let o : Opened g x = opened p g x good is ungranted in
       let head : (o.inv c ≡ InvAcked) × (flush_response o.fl c ≡ []) × (rest ≡ []) = ack_head _ c t rest (sym (o.good.responses c) ∙ e) x.cache o.busy o.fl o.inv refl in (
@@ -62,7 +64,8 @@ module _ (p : Phase) (g : Group) (x : Transaction) (good : Good p g) (is : g.tra
             (subst (λ (r : Reading). Good (Open x.cache o.busy o.fl o.inv) (record g { transaction = Some (open_transaction x.cache o.busy x.write_back r x.written x.waiting) })) f o.good))),
       )
 
-  pub invalidates : (to : List ℕ) → times x.cache to ≡ 0 → ((c : ℕ) → times c to ≤ 1) → ((c : ℕ) → times c to ≡ 1 → (w : ℕ) × Holds (g.directory c w) (request_tag x.request))
+  pub invalidates : (to : List ℕ) → times x.cache to ≡ 0 → ((c : ℕ) → times c to ≤ 1)
+      → ((c : ℕ) → times c to ≡ 1 → (w : ℕ) × Holds (g.directory c w) (request_tag x.request))
       → ((c w : ℕ) → times c to ≡ 1 → Holds (g.directory c w) (request_tag x.request) → is_light (g.directory c w).state ≡ true)
       → Fine (record g { directory = wiped_all to (request_tag x.request) g.directory; command = inv_to to (request_tag x.request) g.command; transaction = Some (record x { waiting = x.waiting ++ to }) })
   invalidates to a b c d =

@@ -51,7 +51,8 @@ pub record OpenedQuiet (g : Group) (x : Transaction) : Type 0 where
   pub shape : x ≡ open_transaction x.cache busy Idle x.reading x.written []
   pub good : Good (Open x.cache busy NoFlush inv) (record g { transaction = Some (open_transaction x.cache busy Idle x.reading x.written []) })
 
-pub opened_quiet : (p : Phase) (g : Group) (x : Transaction) → Good p g → g.transaction ≡ Some x → x.granted ≡ false → x.write_back ≡ Idle → x.waiting ≡ [] → OpenedQuiet g x
+pub opened_quiet : (p : Phase) (g : Group) (x : Transaction) → Good p g → g.transaction ≡ Some x → x.granted ≡ false → x.write_back ≡ Idle → x.waiting ≡ []
+    → OpenedQuiet g x
 opened_quiet p g x good is ungranted idle none =
     let o : OpenedIdle g x = opened_idle p g x good is ungranted idle in
     record {
@@ -74,11 +75,13 @@ module _ (p : Phase) (g : Group) (x : Transaction) (good : Good p g) (is : g.tra
             (flush_good g x.cache o ow u y q.busy x.reading x.written x.waiting q.inv q.good has light owner (whose_is q.busy q.shape whose)),
       )
     where
-      whose_is : (b : InProgress) → x ≡ open_transaction x.cache b Idle x.reading x.written x.waiting → (u ≡ request_tag x.request) ⊎ (o ≡ x.cache) → (u ≡ op_tag b.op) ⊎ (o ≡ x.cache)
+      whose_is : (b : InProgress) → x ≡ open_transaction x.cache b Idle x.reading x.written x.waiting → (u ≡ request_tag x.request) ⊎ (o ≡ x.cache)
+          → (u ≡ op_tag b.op) ⊎ (o ≡ x.cache)
       whose_is b e (inl s) = inl (s ∙ shape-tag x b _ e refl)
       whose_is b e (inr s) = inr s
 
-  pub reads_in : x.reading ≡ NotRead → asks_read x.request ≡ true → ((c w : ℕ) → Holds (g.directory c w) (request_tag x.request) → is_light (g.directory c w).state ≡ true)
+  pub reads_in : x.reading ≡ NotRead → asks_read x.request ≡ true
+      → ((c w : ℕ) → Holds (g.directory c w) (request_tag x.request) → is_light (g.directory c w).state ≡ true)
       → Fine (record g { memout = g.memout ++ Read (request_tag x.request) ∷ []; transaction = Some (record x { reading = ReadAsked }) })
   reads_in none kind light =
       let q : OpenedIdle g x = opened_idle p g x good is ungranted idle in
@@ -128,7 +131,8 @@ module _ (p : Phase) (g : Group) (x : Transaction) (good : Good p g) (is : g.tra
   at_tag : (c w : ℕ) → Holds (g.directory c w) (op_tag q.busy.op) → Holds (g.directory c w) (request_tag x.request)
   at_tag c w l = subst (λ (u : ℕ). Holds (g.directory c w) u) (sym tag) l
 
-  victim_is : asks_block x.request ≡ true → (is_readable (g.directory x.cache (request_way x.request)).state ≡ true → (g.directory x.cache (request_way x.request)).tag ≢ request_tag x.request → is_light (g.directory x.cache (request_way x.request)).state ≡ true)
+  victim_is : asks_block x.request ≡ true
+      → (is_readable (g.directory x.cache (request_way x.request)).state ≡ true → (g.directory x.cache (request_way x.request)).tag ≢ request_tag x.request → is_light (g.directory x.cache (request_way x.request)).state ≡ true)
       → is_readable (g.directory x.cache q.busy.way).state ≡ true → (g.directory x.cache q.busy.way).tag ≢ op_tag q.busy.op → is_light (g.directory x.cache q.busy.way).state ≡ true
   victim_is e f = subst (λ (w : ℕ). is_readable (g.directory x.cache w).state ≡ true → (g.directory x.cache w).tag ≢ op_tag q.busy.op → is_light (g.directory x.cache w).state ≡ true) (way e)
       (subst (λ (u : ℕ). is_readable (g.directory x.cache (request_way x.request)).state ≡ true → (g.directory x.cache (request_way x.request)).tag ≢ u → is_light (g.directory x.cache (request_way x.request)).state ≡ true) tag f)
@@ -178,7 +182,8 @@ module _ (p : Phase) (g : Group) (x : Transaction) (good : Good p g) (is : g.tra
         (λ m c w n d l. alone m c w n d (at_tag c w l)))),
   )
 
-  pub grants_wake : (u w : ℕ) → x.request ≡ Wr u w → is_asked x.reading ≡ false → (v : ℕ) → Holds (g.directory x.cache v) u → ((c v : ℕ) → c ≢ x.cache → Holds (g.directory c v) u → ⊥)
+  pub grants_wake : (u w : ℕ) → x.request ≡ Wr u w → is_asked x.reading ≡ false → (v : ℕ) → Holds (g.directory x.cache v) u
+      → ((c v : ℕ) → c ≢ x.cache → Holds (g.directory c v) u → ⊥)
       → Fine (record g {
         command = put g.command x.cache (g.command x.cache ++ StWake u w ∷ []);
         transaction = Some (record x { granted = true; requester_debt = Some (record { cache = x.cache; way = w; held = record { tag = u; state = M } }) });
@@ -215,7 +220,8 @@ module _ (p : Phase) (g : Group) (x : Transaction) (good : Good p g) (is : g.tra
   answers_word u k ws e got = at q.busy.op q.busy.way q.inv q.shape q.good (request ∙ e)
     where
       Answered : Type 0
-      Answered = Fine (record g { command = put g.command x.cache (g.command x.cache ++ UcBlk u k (ws k) ∷ []); transaction = Some (record x { granted = true }) })
+      Answered =
+          Fine (record g { command = put g.command x.cache (g.command x.cache ++ UcBlk u k (ws k) ∷ []); transaction = Some (record x { granted = true }) })
 
       answer : (t j y : ℕ) (inv : ℕ → Ack) → x ≡ open_transaction x.cache (record { op = UcLoad t j; way = y }) Idle x.reading x.written []
           → Good (Open x.cache (record { op = UcLoad t j; way = y }) NoFlush inv) (record g { transaction = Some (open_transaction x.cache (record { op = UcLoad t j; way = y }) Idle x.reading x.written []) }) → t ≡ u → j ≡ k → Answered

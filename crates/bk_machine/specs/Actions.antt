@@ -206,7 +206,8 @@ abbrev pub action_after : ℕ → Action → World → World
 action_after s (Takes c q rest) w =
     record w { request = put w.request c rest; transaction = Some (s, fresh c q); pending = put w.pending s true; taken = put w.taken s (w.taken s + 1) }
 -- settle: the head removed, its group not pending, settled grows
-action_after s (Settles c t rest) w = record w { response = put w.response c rest; pending = put w.pending s false; settled = put w.settled s (w.settled s + 1) }
+action_after s (Settles c t rest) w =
+    record w { response = put w.response c rest; pending = put w.pending s false; settled = put w.settled s (w.settled s + 1) }
 -- collect: the head removed; acks less one, or the block kept, or no flush, or the block got
 action_after s (CollectsAck c t rest x) w = with_transaction s (record x { waiting = remove_one c x.waiting }) (record w { response = put w.response c rest })
 action_after s (CollectsAnswer c t ws rest x) w = with_transaction s (record x { write_back = brought t ws }) (record w { response = put w.response c rest })
@@ -223,7 +224,8 @@ action_after s (FlushesOwner o v y x) w = flushes s o v (request_tag x.request) 
 -- write back: Write, no flush
 action_after s (WritesBack b x) w = with_transaction s (record x { write_back = Idle }) (record w { memout = w.memout ++ (s, Write b.tag b.words) ∷ [] })
 -- read memory: Read, the read asked
-action_after s (ReadsMemory x) w = with_transaction s (record x { reading = ReadAsked }) (record w { memout = w.memout ++ (s, Read (request_tag x.request)) ∷ [] })
+action_after s (ReadsMemory x) w =
+    with_transaction s (record x { reading = ReadAsked }) (record w { memout = w.memout ++ (s, Read (request_tag x.request)) ∷ [] })
 -- write word: WriteWord, the word written
 action_after s (WritesWord t i n x) w = with_transaction s (record x { written = true }) (record w { memout = w.memout ++ (s, WriteWord t i n) ∷ [] })
 -- grant by block: Blk, granted, the requester's debt
@@ -243,7 +245,8 @@ action_after s (AnswersEvict t v x) w = with_transaction s (record x { granted =
 -- pay: the entry becomes what is owed, and the debt is paid
 action_after s (PaysRequester d x) w =
     with_transaction s (record x { requester_debt = None }) (record w { directory = put w.directory s (put2 (w.directory s) d.cache d.way d.held) })
-action_after s (PaysOwner d x) w = with_transaction s (record x { owner_debt = None }) (record w { directory = put w.directory s (put2 (w.directory s) d.cache d.way d.held) })
+action_after s (PaysOwner d x) w =
+    with_transaction s (record x { owner_debt = None }) (record w { directory = put w.directory s (put2 (w.directory s) d.cache d.way d.held) })
 -- finish: no transaction
 action_after s (Finishes x) w = record w { transaction = None }
 -- idle: nothing

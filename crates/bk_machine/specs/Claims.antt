@@ -47,7 +47,8 @@ pub record Serves (w : World) (s : ℕ) (P : Transaction → Type 0) : Type 0 wh
 -- to come, a Wb or NullWb while a flush is asked, a Block while a read is asked.
 pub record Collectable (w : World) : Type 0 where
   pub ack : (s c t : ℕ) (rest : List (ℕ × Response)) → w.response c ≡ (s, InvAck t) ∷ rest → Serves w s (λ x. times c x.waiting ≡ 1)
-  pub answer : (s c t : ℕ) (words : Option (ℕ → ℕ)) (rest : List (ℕ × Response)) → w.response c ≡ (s, answer_of t words) ∷ rest → Serves w s (λ x. x.write_back ≡ Asked)
+  pub answer : (s c t : ℕ) (words : Option (ℕ → ℕ)) (rest : List (ℕ × Response)) → w.response c ≡ (s, answer_of t words) ∷ rest
+      → Serves w s (λ x. x.write_back ≡ Asked)
   pub block : (s : ℕ) (b : Block) (rest : List (ℕ × Block)) → w.memin ≡ (s, b) ∷ rest → Serves w s (λ x. x.reading ≡ ReadAsked)
 
 -- nothing is under way to or from a cache, and the engine serves no request

@@ -58,7 +58,8 @@ completes s c op n w = record w {
 
 -- the entry at way v becomes this tag, state and words
 abbrev pub fills_entry : ℕ → ℕ → ℕ → ℕ → Coh → (ℕ → ℕ) → World → World
-fills_entry s c v t x ws w = record w { held = put w.held s (put2 (w.held s) c v (record { tag = t; state = x })); words = put w.words s (put2 (w.words s) c v ws) }
+fills_entry s c v t x ws w =
+    record w { held = put w.held s (put2 (w.held s) c v (record { tag = t; state = x })); words = put w.words s (put2 (w.words s) c v ws) }
 
 abbrev pub with_command : ℕ → List (ℕ × ToCache) → World → World
 with_command c xs w = record w { command = put w.command c xs }
@@ -73,7 +74,8 @@ step_after s (StoreHits c t v k n) w = records s c (Store t k n) 0 (record (touc
   words = put w.words s (put2 (w.words s) c v (put (w.words s c v) k n));
 })
 -- the operation is in progress with its way, and its request is sent
-step_after s (Asks c v op) w = record w { busy = put w.busy c (Some (s, record { op = op; way = v })); request = put w.request c (w.request c ++ (s, request_of op v) ∷ []) }
+step_after s (Asks c v op) w =
+    record w { busy = put w.busy c (Some (s, record { op = op; way = v })); request = put w.request c (w.request c ++ (s, request_of op v) ∷ []) }
 step_after s (EvictIdles c t) w = records s c (Evict t) 0 w
 -- Inv: a valid entry of the block becomes I; InvAck
 step_after s (InvComes c t rest) w = record w {
@@ -103,7 +105,8 @@ step_after s (WakeStores c t v k n rest) w =
 step_after s (WordComes c t v k n rest) w = with_command c rest (completes s c (UcLoad t k) n w)
 step_after s (StoreComes c t v k n rest) w = with_command c rest (completes s c (UcStore t k n) 0 w)
 step_after s (EvictComes c t v rest) w = with_command c rest (completes s c (Evict t) 0 w)
-step_after s (FillLoads c o t v k x ws rest) w = record (completes s c (Load t k) (ws k) (fills_entry s c v t x ws (touched s c v w))) { fill = put2 w.fill c o rest }
+step_after s (FillLoads c o t v k x ws rest) w =
+    record (completes s c (Load t k) (ws k) (fills_entry s c v t x ws (touched s c v w))) { fill = put2 w.fill c o rest }
 step_after s (FillStores c o t v k n x ws rest) w =
     record (completes s c (Store t k n) 0 (fills_entry s c v t M (put ws k n) (touched s c v w))) { fill = put2 w.fill c o rest }
 -- the memory: Read answers Block with the words; Write and WriteWord change the words

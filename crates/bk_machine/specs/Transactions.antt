@@ -39,7 +39,8 @@ pub record Transaction : Type 0 where
 
 -- a transaction as it begins
 abbrev pub fresh : ℕ → Request → Transaction
-fresh c q = record { cache = c; request = q; granted = false; write_back = Idle; reading = NotRead; written = false; waiting = []; requester_debt = None; owner_debt = None }
+fresh c q =
+    record { cache = c; request = q; granted = false; write_back = Idle; reading = NotRead; written = false; waiting = []; requester_debt = None; owner_debt = None }
 
 -- a transaction that isn't granted, for an operation in progress: it has no debts
 abbrev pub open_transaction : ℕ → InProgress → WriteBack → Reading → Bool → List ℕ → Transaction
