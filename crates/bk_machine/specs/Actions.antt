@@ -135,7 +135,8 @@ Permitted k s (CollectsAnswer c t ws rest x) w = Ungranted s x w × (w.response 
 Permitted k s (CollectsBlock t ws rest x) w = Ungranted s x w × (w.memin ≡ (s, record { tag = t; words = ws }) ∷ rest) × (x.reading ≡ ReadAsked)
 -- invalidate: ungranted; to others, and by choice to an owner in F
 Permitted k s (Invalidates f to x) w =
-    Ungranted s x w × (to ≡ sent_to f (owner_for k (w.directory s) x) (others_for k (w.directory s) x)) × (f ≡ true → NoneOrForward (owner_state_for k (w.directory s) x))
+    Ungranted s x w × (to ≡ sent_to f (owner_for k (w.directory s) x) (others_for k (w.directory s) x))
+    × (f ≡ true → NoneOrForward (owner_state_for k (w.directory s) x))
 -- flush victim: ungranted, no flush, victim heavy
 Permitted k s (FlushesVictim x) w = Ungranted s x w × (x.write_back ≡ Idle) × (is_light (victim_for (w.directory s) x) ≡ false)
 -- flush own: ungranted, no flush, own valid, and not S where the new state is S
@@ -191,7 +192,8 @@ sends s c m w = record w { command = put w.command c (w.command c ++ (s, m) ∷ 
 -- StWb to an entry's cache, for its block: the entry takes the state, and the flush is asked
 abbrev pub flushes : ℕ → ℕ → ℕ → ℕ → Coh → Transaction → World → World
 flushes s o v t y x w =
-    with_transaction s (record x { write_back = Asked }) (sends s o (StWb t y) (record w { directory = put w.directory s (put2 (w.directory s) o v (with_state (w.directory s o v) y)) }))
+    with_transaction s (record x { write_back = Asked })
+    (sends s o (StWb t y) (record w { directory = put w.directory s (put2 (w.directory s) o v (with_state (w.directory s o v) y)) }))
 
 -- the requester's entry has still to become the block in the state granted
 abbrev pub requester_owes : Transaction → Coh → Option Debt
@@ -230,10 +232,12 @@ action_after s (ReadsMemory x) w =
 action_after s (WritesWord t i n x) w = with_transaction s (record x { written = true }) (record w { memout = w.memout ++ (s, WriteWord t i n) ∷ [] })
 -- grant by block: Blk, granted, the requester's debt
 action_after s (GrantsByBlock ws y x) w =
-    with_transaction s (record x { granted = true; requester_debt = requester_owes x y }) (sends s x.cache (Blk (request_tag x.request) (request_way x.request) y ws) w)
+    with_transaction s (record x { granted = true; requester_debt = requester_owes x y })
+    (sends s x.cache (Blk (request_tag x.request) (request_way x.request) y ws) w)
 -- grant by wake: StWake, granted, the requester's debt of M
 action_after s (GrantsByWake t v x) w =
-    with_transaction s (record x { granted = true; requester_debt = Some (record { cache = x.cache; way = v; held = record { tag = t; state = M } }) }) (sends s x.cache (StWake t v) w)
+    with_transaction s (record x { granted = true; requester_debt = Some (record { cache = x.cache; way = v; held = record { tag = t; state = M } }) })
+    (sends s x.cache (StWake t v) w)
 -- grant by transfer: StTr to the owner, granted, the debts of both
 action_after s (GrantsByTransfer o v y z x) w =
     with_transaction s (record x { granted = true; requester_debt = requester_owes x z; owner_debt = owner_owes o v x y })

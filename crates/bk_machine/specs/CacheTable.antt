@@ -24,7 +24,9 @@ at_way (Some v) f d = f v
 abbrev pub issue_row : ℕ → World → ℕ → ℕ → ℕ → Op → Option (ℕ × Step)
 issue_row ways w c s way (Load t k) = at_way (find ways (w.held s c) t) (λ v. Some (s, LoadHits c t v k)) (Some (s, Asks c way (Load t k)))
 issue_row ways w c s way (Store t k n) =
-    at_way (find ways (w.held s c) t) (λ v. cond (is_writable (w.held s c v).state) (Some (s, StoreHits c t v k n)) (Some (s, Asks c v (Store t k n)))) (Some (s, Asks c way (Store t k n)))
+    at_way (find ways (w.held s c) t)
+    (λ v. cond (is_writable (w.held s c v).state) (Some (s, StoreHits c t v k n)) (Some (s, Asks c v (Store t k n))))
+    (Some (s, Asks c way (Store t k n)))
 issue_row ways w c s way (UcLoad t k) = Some (s, Asks c 0 (UcLoad t k))
 issue_row ways w c s way (UcStore t k n) = Some (s, Asks c 0 (UcStore t k n))
 issue_row ways w c s way (Evict t) = at_way (find ways (w.held s c) t) (λ v. Some (s, Asks c v (Evict t))) (Some (s, EvictIdles c t))

@@ -37,8 +37,10 @@ first_load = fresh 0 (Rd 0 0)
 
 abbrev pub loads : List Event
 loads = Issue 0 0 (Load 0 3) 0 ∷ Engine 0 (Takes 0 (Rd 0 0) []) ∷ Engine 0 (ReadsMemory first_load) ∷ Memory
-    ∷ Engine 0 (CollectsBlock 0 zeros [] (record first_load { reading = ReadAsked })) ∷ Engine 0 (GrantsByBlock zeros E (record first_load { reading = Got zeros })) ∷ Command 0
-    ∷ Engine 0 (PaysRequester (debt 0 0 E) (granted (record first_load { reading = Got zeros }) E 0)) ∷ Engine 0 (Finishes (done (record first_load { reading = Got zeros })))
+    ∷ Engine 0 (CollectsBlock 0 zeros [] (record first_load { reading = ReadAsked }))
+    ∷ Engine 0 (GrantsByBlock zeros E (record first_load { reading = Got zeros })) ∷ Command 0
+    ∷ Engine 0 (PaysRequester (debt 0 0 E) (granted (record first_load { reading = Got zeros }) E 0))
+    ∷ Engine 0 (Finishes (done (record first_load { reading = Got zeros })))
     ∷ Engine 0 (Settles 0 0 []) ∷ []
 
 -- It stores into word 3 without a word to the engine: its copy goes from E to M.
@@ -66,8 +68,10 @@ third_got = record third_load { reading = Got zeros }
 
 abbrev pub writes_back : List Event
 writes_back = Issue 0 0 (Load 1 0) 0 ∷ Engine 0 (Takes 0 (Rd 1 0) []) ∷ Engine 0 (FlushesVictim third_load) ∷ Command 0
-    ∷ Engine 0 (CollectsAnswer 0 0 (Some stored) [] (record third_load { write_back = Asked })) ∷ Engine 0 (WritesBack (record { tag = 0; words = stored }) (record third_load { write_back = Kept (record { tag = 0; words = stored }) }))
-    ∷ Engine 0 (ReadsMemory third_load) ∷ Memory ∷ Memory ∷ Engine 0 (CollectsBlock 1 zeros [] (record third_load { reading = ReadAsked })) ∷ Engine 0 (GrantsByBlock zeros E third_got) ∷ Command 0
+    ∷ Engine 0 (CollectsAnswer 0 0 (Some stored) [] (record third_load { write_back = Asked }))
+    ∷ Engine 0 (WritesBack (record { tag = 0; words = stored }) (record third_load { write_back = Kept (record { tag = 0; words = stored }) }))
+    ∷ Engine 0 (ReadsMemory third_load) ∷ Memory ∷ Memory ∷ Engine 0 (CollectsBlock 1 zeros [] (record third_load { reading = ReadAsked }))
+    ∷ Engine 0 (GrantsByBlock zeros E third_got) ∷ Command 0
     ∷ Engine 0 (PaysRequester (debt 0 1 E) (granted third_got E 1)) ∷ Engine 0 (Finishes (done third_got)) ∷ Engine 0 (Settles 0 1 []) ∷ []
 
 -- Cache 0 stores past the caches into word 3 of block 0: cache 1's copy is invalidated before the word is written.
@@ -76,7 +80,8 @@ uc_store = fresh 0 (UcWr 0 3 9)
 
 abbrev pub uncached_store : List Event
 uncached_store = Issue 0 0 (UcStore 0 3 9) 0 ∷ Engine 0 (Takes 0 (UcWr 0 3 9) []) ∷ Engine 0 (Invalidates false (1 ∷ []) uc_store) ∷ Command 1
-    ∷ Engine 0 (CollectsAck 1 0 [] (record uc_store { waiting = 1 ∷ [] })) ∷ Engine 0 (WritesWord 0 3 9 uc_store) ∷ Engine 0 (AnswersStore 0 3 9 (record uc_store { written = true })) ∷ Command 0 ∷ Memory
+    ∷ Engine 0 (CollectsAck 1 0 [] (record uc_store { waiting = 1 ∷ [] })) ∷ Engine 0 (WritesWord 0 3 9 uc_store)
+    ∷ Engine 0 (AnswersStore 0 3 9 (record uc_store { written = true })) ∷ Command 0 ∷ Memory
     ∷ Engine 0 (Finishes (done (record uc_store { written = true }))) ∷ Engine 0 (Settles 0 0 []) ∷ []
 
 -- Cache 0 gives block 1 up.
@@ -85,7 +90,8 @@ evict = fresh 0 (EvictRequest 1 0)
 
 abbrev pub evicts : List Event
 evicts = Issue 0 0 (Evict 1) 0 ∷ Engine 0 (Takes 0 (EvictRequest 1 0) []) ∷ Engine 0 (FlushesOwn 0 I evict) ∷ Command 0
-    ∷ Engine 0 (CollectsAnswer 0 1 None [] (record evict { write_back = Asked })) ∷ Engine 0 (AnswersEvict 1 0 evict) ∷ Command 0 ∷ Engine 0 (Finishes (done evict)) ∷ Engine 0 (Settles 0 1 []) ∷ []
+    ∷ Engine 0 (CollectsAnswer 0 1 None [] (record evict { write_back = Asked })) ∷ Engine 0 (AnswersEvict 1 0 evict) ∷ Command 0
+    ∷ Engine 0 (Finishes (done evict)) ∷ Engine 0 (Settles 0 1 []) ∷ []
 
 -- Cache 1 loads word 3 of block 0 past the caches.
 abbrev pub uc_load : Transaction
@@ -96,7 +102,8 @@ last_words = put stored 3 9
 
 abbrev pub uncached_load : List Event
 uncached_load = Issue 1 0 (UcLoad 0 3) 0 ∷ Engine 0 (Takes 1 (UcRd 0 3) []) ∷ Engine 0 (ReadsMemory uc_load) ∷ Memory
-    ∷ Engine 0 (CollectsBlock 0 last_words [] (record uc_load { reading = ReadAsked })) ∷ Engine 0 (AnswersWord 0 3 last_words (record uc_load { reading = Got last_words })) ∷ Command 1
+    ∷ Engine 0 (CollectsBlock 0 last_words [] (record uc_load { reading = ReadAsked }))
+    ∷ Engine 0 (AnswersWord 0 3 last_words (record uc_load { reading = Got last_words })) ∷ Command 1
     ∷ Engine 0 (Finishes (done (record uc_load { reading = Got last_words }))) ∷ Engine 0 (Settles 1 0 []) ∷ []
 
 -- all of them, one after the other
@@ -108,5 +115,6 @@ answer c op n = (0, record { cache = c; op = op; answer = n })
 
 -- what the operations have answered after it all
 abbrev pub answers : List (ℕ × Completed)
-answers = answer 0 (Load 0 3) 0 ∷ answer 0 (Store 0 3 5) 0 ∷ answer 1 (Load 0 3) 5 ∷ answer 0 (Load 1 0) 0 ∷ answer 0 (UcStore 0 3 9) 0 ∷ answer 0 (Evict 1) 0
+answers = answer 0 (Load 0 3) 0 ∷ answer 0 (Store 0 3 5) 0 ∷ answer 1 (Load 0 3) 5 ∷ answer 0 (Load 1 0) 0
+    ∷ answer 0 (UcStore 0 3 9) 0 ∷ answer 0 (Evict 1) 0
     ∷ answer 1 (UcLoad 0 3) 9 ∷ []
