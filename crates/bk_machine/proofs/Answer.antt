@@ -5,7 +5,7 @@ use Rattle.std.proofs.lemmas.Bool.Decides.{nat_tests}
 use mathlib.Core.Path.{fun_ext}
 use Rattle.bk_base.specs.Tables.{put}
 use Rattle.bk_machine.specs.Tables.{put2}
-use Rattle.bk_machine.specs.Entries.{Entry, is_light}
+use Rattle.bk_machine.specs.Entries.{Entry}
 use Rattle.bk_machine.specs.Messages.{UcLoad, UcStore, Evict, ToCache, UcBlk, UcDone, Done, request_of}
 use Rattle.bk_machine.specs.Transactions.{InProgress, WriteBack, Idle, Reading, Got, Debt, Transaction, open_transaction, granted_transaction, is_asked, pay, paid}
 use Rattle.bk_machine.specs.Phases.{Flush, NoFlush, Ack, Flight, ByWord, ByDone, Phase, Free, Open, Flying, Settling, at_cache, flight_command, flight_fill, flight_effect}
@@ -15,11 +15,7 @@ use Rattle.bk_machine.specs.Invariant.{flight_kind, Good, Copies, Matches, Fligh
 use Rattle.bk_machine.proofs.Settle.{channels-none, OpenValues-granted}
 use Rattle.bk_machine.proofs.Engine.{not_at}
 use Rattle.bk_machine.proofs.Grant.{quiet-matches, quiet-commands, quiet-responses}
-use Rattle.bk_base.specs.declared.coh.Coh.{Coh}
-use Rattle.bk_base.specs.States.{is_writable}
-
-light-writable : (x : Coh) → is_light x ≡ true → is_writable x ≡ false
-light-writable x e = grind arith
+use Rattle.bk_machine.proofs.FlushComes.{light-writable}
 
 -- an answer goes to the requester, and no copy changes
 module _ (g : Group) (r : ℕ) (b : InProgress) (rd : Reading) (wr : Bool) (inv : ℕ → Ack)

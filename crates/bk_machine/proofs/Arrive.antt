@@ -1,5 +1,5 @@
 -- A block or a wake comes to the cache that waits for it.
-use Rattle.std.proofs.Common.{◌≡◌, ℕ, ◌≢◌, true, false, cond, eqb, ◌&&◌, refl, arith, [], ◌∷◌, ◌++◌}
+use Rattle.std.proofs.Common.{◌≡◌, ℕ, ◌≢◌, true, false, cond, eqb, ◌&&◌, arith, [], ◌∷◌, ◌++◌}
 use Rattle.std.specs.Prelude.{Some, None}
 use Rattle.std.proofs.lemmas.Bool.Decides.{nat_tests}
 use Rattle.bk_base.specs.Tables.{put}
@@ -11,7 +11,7 @@ use Rattle.bk_machine.specs.Phases.{Flight, Flying, Settling, responses_of, asks
 use Rattle.bk_machine.specs.World.{Group}
 use Rattle.bk_machine.specs.Words.{Answers, latest, effective, after_op}
 use Rattle.bk_machine.specs.Invariant.{Good, Copies, Matches, OneWay, Same, Values, flight_away, Placed}
-use Rattle.bk_machine.proofs.Growing.{values-append, Answers-append}
+use Rattle.bk_machine.proofs.Growing.{Answers-append}
 use Rattle.bk_machine.proofs.Settle.{OpenValues-granted, Placed-same, settled-copies}
 use Rattle.bk_base.specs.declared.coh.Coh.{Coh}
 use Rattle.bk_base.specs.declared.coh.Coh.TheVariants.{M}
@@ -79,9 +79,6 @@ module _ (g : Group) (c t w k : ℕ) (x : Coh) (ws : ℕ → ℕ) (f : Flight)
     (same : Same ws (latest g.history t))
     (old_clean : (u : ℕ) → Holds (g.held c w) u → is_dirty (g.held c w).state ≡ false)
     (flies : (u j : ℕ) → (u ≡ t → is_dirty x ≡ false) → flight_away f (record { op = Load t k; way = w }) u j ≡ false) where
-  loaded-latest : latest (g.history ++ record { cache = c; op = Load t k; answer = ws k } ∷ []) ≡ latest g.history
-  loaded-latest = values-append _ g.history _
-
   loaded-words : (u i v j : ℕ) → Holds (put2 g.held c w (record { tag = t; state = x }) i v) u → put2 g.words c w ws i v j ≡ latest g.history u j
   unfolding put2
   loaded-words u i v j l = grind (arith, nat_tests, good.values.copies u i v j, same j)
@@ -121,9 +118,6 @@ module _ (g : Group) (c t w k n : ℕ) (ws : ℕ → ℕ) (f : Flight)
     (one_way : OneWay (put2 g.held c w (record { tag = t; state = M })))
     (old_clean : (u : ℕ) → u ≢ t → Holds (g.held c w) u → is_dirty (g.held c w).state ≡ false)
     (flies : (u j : ℕ) → u ≢ t → flight_away f (record { op = Store t k n; way = w }) u j ≡ false) where
-  pub stored-latest : latest (g.history ++ record { cache = c; op = Store t k n; answer = 0 } ∷ []) ≡ after_op (Store t k n) (latest g.history)
-  stored-latest = values-append _ g.history _
-
   stored-words : (u i v j : ℕ) → Holds (put2 g.held c w (record { tag = t; state = M }) i v) u
       → put2 g.words c w (put ws k n) i v j ≡ after_op (Store t k n) (latest g.history) u j
   unfolding put2 put
@@ -156,6 +150,3 @@ module _ (g : Group) (c t w k n : ℕ) (ws : ℕ → ℕ) (f : Flight)
     flying = tt;
     held = OpenValues-granted g.transaction _ _ _ good.transaction;
   }
-
-  pub stored-answers : Answers (λ u j. 0) (g.history ++ record { cache = c; op = Store t k n; answer = 0 } ∷ [])
-  stored-answers = Answers-append (λ u j. 0) g.history _ good.answers refl

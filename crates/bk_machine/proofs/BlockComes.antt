@@ -3,7 +3,7 @@ use Rattle.std.proofs.Common.{◌≡◌, ℕ, ◌≢◌, true, false, cond, eqb,
 use Rattle.std.proofs.lemmas.Bool.Decides.{nat_tests}
 use Rattle.bk_base.specs.Tables.{put}
 use Rattle.bk_machine.specs.Tables.{put2}
-use Rattle.bk_machine.specs.Entries.{Holds, is_light}
+use Rattle.bk_machine.specs.Entries.{Holds}
 use Rattle.bk_machine.specs.Messages.{Load, Store, ToCache, FillMessage}
 use Rattle.bk_machine.specs.Transactions.{InProgress, paid}
 use Rattle.bk_machine.specs.Phases.{Flight, ByBlock, ByWake, ByFill, Flying, Settling, commands_of, fills_of}
@@ -15,9 +15,7 @@ use Rattle.bk_machine.proofs.Arrive.{loaded, stored, arrive-responses, arrive-re
 use Rattle.bk_base.specs.declared.coh.Coh.{Coh}
 use Rattle.bk_base.specs.declared.coh.Coh.TheVariants.{M}
 use Rattle.bk_base.specs.States.{is_writable, is_dirty}
-
-light-dirty : (x : Coh) → is_light x ≡ true → is_dirty x ≡ false
-light-dirty x e = grind arith
+use Rattle.bk_machine.proofs.FlushComes.{light-dirty}
 
 abbrev pub take_command : Group → ℕ → List ToCache → Group
 take_command g c rest = record g { command = put g.command c rest }

@@ -10,6 +10,7 @@ use Rattle.bk_machine.specs.Phases.{Flush, NoFlush, FlushDone, Ack, NoInv, InvAc
 use Rattle.bk_machine.specs.World.{Group}
 use Rattle.bk_machine.specs.Words.{latest}
 use Rattle.bk_machine.specs.Invariant.{Good, Matches, Invalidating, FlushValues, flush_away, kept_away, KeptValues, MemoryChannels, flush_state, due}
+use Rattle.bk_machine.proofs.Engine.{or_is_left}
 
 first_is : (i c x n : ℕ) → eqb c x ≡ true → n + cond (eqb i c) 1 0 ≡ cond (eqb i x) 1 0 + n
 first_is i c x n e = grind (arith, nat_tests)
@@ -121,9 +122,6 @@ module _ (g : Group) (r c t : ℕ) (b : InProgress) (wb : WriteBack) (rd : Readi
 
   or_left : (x y z : Bool) → x || y ≡ false → z ≡ false → z || y ≡ false
   or_left x y z e f = grind arith
-
-  or_is_left : (x y : Bool) → x || y ≡ false → x ≡ false
-  or_is_left x y e = grind arith
 
   back-values : (words : Option (ℕ → ℕ)) → FlushValues (FlushDone c t words) g.held (latest g.history) → KeptValues (brought t words) g.held (latest g.history)
   back-values None q = tt

@@ -6,22 +6,16 @@ use Rattle.bk_machine.specs.Entries.{Entry, Holds, wipe}
 use Rattle.bk_machine.specs.Messages.{op_tag}
 use Rattle.bk_machine.specs.Transactions.{InProgress}
 use Rattle.bk_machine.specs.Phases.{Flush, Ack, InvSent, InvAcked, Open, expected, flush_command}
-use Rattle.bk_machine.specs.Invariant.{Matches, Invalidating, OneWay, Alone, FlushAims}
+use Rattle.bk_machine.specs.Invariant.{Matches, Invalidating, FlushAims}
 use Rattle.bk_base.specs.States.{is_writable, is_dirty}
 
 pub wipe-holds : (c t : ℕ) (h : ℕ → ℕ → Entry) (i w u : ℕ) → Holds (wipe c t h i w) u → Holds (h i w) u
 unfolding wipe
 wipe-holds c t h i w u k = grind arith
 
-pub OneWay-wipe : (c t : ℕ) (h : ℕ → ℕ → Entry) → OneWay h → OneWay (wipe c t h)
-OneWay-wipe c t h one u i w v k l = one u i w v (wipe-holds c t h i w u k) (wipe-holds c t h i v u l)
-
 pub wipe-writable : (c t : ℕ) (h : ℕ → ℕ → Entry) (i w : ℕ) → is_writable (h i w).state ≡ false → is_writable (wipe c t h i w).state ≡ false
 unfolding wipe
 wipe-writable c t h i w k = grind arith
-
-pub Alone-wipe : (c t : ℕ) (h : ℕ → ℕ → Entry) → Alone h → Alone (wipe c t h)
-Alone-wipe c t h one u i w o v k l n = wipe-writable c t h i w (one u i w o v (wipe-holds c t h i w u k) (wipe-holds c t h o v u l) n)
 
 -- the cache c, which an invalidation reached, drops the tag
 module _ (r c t : ℕ) (b : InProgress) (fl : Flush) (inv : ℕ → Ack) (d h : ℕ → ℕ → Entry) (sent : inv c ≡ InvSent) (quiet : flush_command fl c ≡ []) (tag : t ≡ op_tag b.op) where

@@ -15,11 +15,8 @@ use Rattle.bk_machine.proofs.Settle.{Values-effective}
 use Rattle.bk_machine.proofs.Send.{request-tag}
 use Rattle.bk_base.specs.States.{is_dirty}
 
-or_is_left : (x y : Bool) → x || y ≡ false → x ≡ false
+pub or_is_left : (x y : Bool) → x || y ≡ false → x ≡ false
 or_is_left x y e = grind arith
-
-or_is_right : (x y : Bool) → x || y ≡ false → y ≡ false
-or_is_right x y e = grind arith
 
 pub no_inv_is : (a : Ack) → due a ≡ 0 → a ≡ NoInv
 no_inv_is a e = grind arith

@@ -27,10 +27,10 @@ after_flush g c w t x rest = record g {
   response = put g.response c (g.response c ++ answer_of t (words_back g c w) ∷ []);
 }
 
-light-writable : (x : Coh) → is_light x ≡ true → is_writable x ≡ false
+pub light-writable : (x : Coh) → is_light x ≡ true → is_writable x ≡ false
 light-writable x e = grind arith
 
-light-dirty : (x : Coh) → is_light x ≡ true → is_dirty x ≡ false
+pub light-dirty : (x : Coh) → is_light x ≡ true → is_dirty x ≡ false
 light-dirty x e = grind arith
 
 module _ (g : Group) (r c w t : ℕ) (x : Coh) (b : InProgress) (inv : ℕ → Ack) (rest : List ToCache)

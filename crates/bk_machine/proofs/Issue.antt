@@ -10,7 +10,7 @@ use Rattle.bk_machine.specs.Transactions.{InProgress, WriteBack, Idle, Asked, Ke
 use Rattle.bk_machine.specs.Phases.{Flush, NoFlush, FlushSent, FlushDone, Ack, Flight, ByBlock, ByWake, ByTransfer, ByFill, ByWord, ByDone, Phase, Free, Open, Flying, Settling, is_taken, asks, expected, flush_effect, inv_effect, flight_effect}
 use Rattle.bk_machine.specs.World.{Group}
 use Rattle.bk_machine.specs.Words.{latest, effective, after_op}
-use Rattle.bk_machine.specs.Invariant.{Good, Matches, Invalidating, Standing, Alone, FlushAims, FlightAims, NoWriter, AllLight, NoCopy, Same, AtHome, PhaseValues, FlushValues, FlightValues, StoredAt, KeptValues, ReadValues, WrittenValues, TransactionValues, OpenValues, MemoryChannels, is_reading, transaction_tag, Taker, Placed}
+use Rattle.bk_machine.specs.Invariant.{Good, Matches, Invalidating, Standing, Alone, FlushAims, FlightAims, NoWriter, AllLight, Same, AtHome, PhaseValues, FlushValues, FlightValues, StoredAt, KeptValues, ReadValues, WrittenValues, TransactionValues, OpenValues, MemoryChannels, is_reading, transaction_tag, Taker, Placed}
 use Rattle.bk_machine.proofs.Growing.{values-append, Answers-append, ReadsFor-same, BlocksFor-same}
 use Rattle.bk_machine.proofs.Settle.{channels-none, channels-at, reading-light, Values-at}
 use Rattle.bk_machine.proofs.Fewer.{Fewer, Lighter, OneWay-fewer, Alone-fewer, NoWriter-fewer, NoCopy-fewer, AllLight-fewer, Placed-fewer}
@@ -223,9 +223,6 @@ module _ (p : Phase) (g : Group) (c t w k n : ℕ) (good : Good p g) (idle : g.b
 
   light-apart : (u : ℕ) → AllLight g.held u → u ≢ t
   light-apart u none = grind (arith, nat_tests, none c w)
-
-  copy-apart : (u : ℕ) → NoCopy g.held u → u ≢ t
-  copy-apart u none = grind (arith, nat_tests, none c w)
 
   hit-words : (u i y j : ℕ) → Holds (put2 g.held c w (with_state (g.held c w) M) i y) u
       → put2 g.words c w (put (g.words c w) k n) i y j ≡ after_op (Store t k n) (latest g.history) u j

@@ -1,15 +1,15 @@
 -- The actions of the caches and the memory keep every group good.
-use Rattle.std.proofs.Common.{◌≡◌, ℕ, true, false, subst, List, [], ◌∷◌, ◌++◌, ◌∙◌, ap, inl, inr}
-use Rattle.std.specs.Prelude.{Option, Some, None}
+use Rattle.std.proofs.Common.{◌≡◌, ℕ, true, false, subst, List, [], ◌∷◌, ◌++◌, inl, inr}
+use Rattle.std.specs.Prelude.{Some, None}
 use Rattle.bk_base.specs.declared.coh.Coh.{Coh}
 use Rattle.bk_machine.specs.Entries.{Entry, Holds}
 use Rattle.bk_machine.specs.Messages.{Op, Load, Store, UcLoad, UcStore, Evict, ToCache, Inv, StWb, StTr, Blk, StWake, UcBlk, UcDone, Done, FillMessage, InvAck, ToMemory, Read, Write, WriteWord}
 use Rattle.bk_machine.specs.Words.{write_block, write_word}
 use Rattle.bk_machine.specs.Invariant.{OneWay, Placed}
-use Rattle.bk_machine.specs.World.{World, only, mine, view}
+use Rattle.bk_machine.specs.World.{World, only, view}
 use Rattle.bk_machine.specs.Steps.{step_after, LoadHits, StoreHits, Asks, EvictIdles, InvComes, FlushComes, TransferComes, BlockLoads, BlockStores, WakeStores, WordComes, StoreComes, EvictComes, FillLoads, FillStores, MemoryReads, MemoryWrites, MemoryWritesWord}
 use Rattle.bk_machine.proofs.Allowed.{AskFits}
-use Rattle.bk_machine.proofs.View.{only-head, mine-here}
+use Rattle.bk_machine.proofs.View.{only-head, mine-some, mine-none}
 use Rattle.bk_machine.proofs.Writes.{seen, pushed, left, pushed_other, left_other, some_is, none_is, from_none, to_none, held-here, held-other, words-here, words-other, memory-here, memory-other, request-here, request-other, command-here, command-other, response-here, response-other, fill-here, fill-other, busy-here, busy-other, memout-here, memout-other, memin-here, memin-other, history-here, history-other, touched-seen}
 use Rattle.bk_machine.specs.Invariant.{EveryGroup}
 use Rattle.bk_machine.proofs.Keeps.{step}
@@ -23,12 +23,6 @@ use Rattle.bk_machine.proofs.Arrive.{loaded, stored}
 use Rattle.bk_machine.proofs.Uncached.{finished}
 use Rattle.bk_machine.proofs.MemoryComes.{read_comes, write_comes, write_word_comes}
 use Rattle.bk_base.specs.States.{is_writable}
-
-mine-busy : {X : Type 0} (s : ℕ) (x : Option (ℕ × X)) (y : X) → x ≡ Some (s, y) → mine s x ≡ Some y
-mine-busy s x y e = ap (mine s) e ∙ mine-here s y
-
-mine-none : {X : Type 0} (s : ℕ) (x : Option (ℕ × X)) → x ≡ None → mine s x ≡ None
-mine-none s x e = ap (mine s) e
 
 asks-placed : (op : Op) (v : ℕ) (h : ℕ → ℕ → Entry) (c : ℕ) → OneWay h → AskFits op v (h c) → Placed op v (h c)
 asks-placed (Load t k) v h c one a = a
@@ -87,42 +81,42 @@ module _ (s : ℕ) (w : World) (all : EveryGroup w) where
   pub keeps_block_load : (c t v k : ℕ) (x : Coh) (ws : ℕ → ℕ) (rest : List (ℕ × ToCache)) → w.command c ≡ (s, Blk t v x ws) ∷ rest
       → w.busy c ≡ Some (s, record { op = Load t k; way = v }) → EveryGroup (step_after s (BlockLoads c t v k x ws rest) w)
   keeps_block_load c t v k x ws rest e f = step s w _ (take_command (loaded (view s w) c t v x ws k) c (only s rest)) all
-      (λ p good. block_loads (view s w) c t v k p good x ws (only s rest) (only-head s (w.command c) rest _ e) (mine-busy s (w.busy c) _ f))
+      (λ p good. block_loads (view s w) c t v k p good x ws (only s rest) (only-head s (w.command c) rest _ e) (mine-some s (w.busy c) _ f))
       (command-here s c (left s rest) (history-here s (pushed s w.history _) (response-here s c (pushed s (w.response c) _) (busy-here s c (none_is s) (words-here s _ (held-here s _ (touched-seen s c v (seen s w))))))))
       (λ u n. command-other u c (left_other u s (w.command c) rest _ n e) (history-other u (pushed_other u s w.history _ n) (response-other u c (pushed_other u s (w.response c) _ n) (busy-other u c (to_none u s _ (w.busy c) n f) (words-other u s _ n (held-other u s _ n (touched-seen s c v (seen u w))))))))
 
   pub keeps_block_store : (c t v k m : ℕ) (x : Coh) (ws : ℕ → ℕ) (rest : List (ℕ × ToCache)) → w.command c ≡ (s, Blk t v x ws) ∷ rest
       → w.busy c ≡ Some (s, record { op = Store t k m; way = v }) → is_writable x ≡ true → EveryGroup (step_after s (BlockStores c t v k m x ws rest) w)
   keeps_block_store c t v k m x ws rest e f y = step s w _ (take_command (stored (view s w) c t v ws k m) c (only s rest)) all
-      (λ p good. block_stores (view s w) c t v k p good m x ws (only s rest) (only-head s (w.command c) rest _ e) (mine-busy s (w.busy c) _ f) y)
+      (λ p good. block_stores (view s w) c t v k p good m x ws (only s rest) (only-head s (w.command c) rest _ e) (mine-some s (w.busy c) _ f) y)
       (command-here s c (left s rest) (history-here s (pushed s w.history _) (response-here s c (pushed s (w.response c) _) (busy-here s c (none_is s) (words-here s _ (held-here s _ (touched-seen s c v (seen s w))))))))
       (λ u n. command-other u c (left_other u s (w.command c) rest _ n e) (history-other u (pushed_other u s w.history _ n) (response-other u c (pushed_other u s (w.response c) _ n) (busy-other u c (to_none u s _ (w.busy c) n f) (words-other u s _ n (held-other u s _ n (touched-seen s c v (seen u w))))))))
 
   pub keeps_wake : (c t v k m : ℕ) (rest : List (ℕ × ToCache)) → w.command c ≡ (s, StWake t v) ∷ rest
       → w.busy c ≡ Some (s, record { op = Store t k m; way = v }) → EveryGroup (step_after s (WakeStores c t v k m rest) w)
   keeps_wake c t v k m rest e f = step s w _ (take_command (stored (view s w) c t v (w.words s c v) k m) c (only s rest)) all
-      (λ p good. wake_stores (view s w) c t v k p good m (only s rest) (only-head s (w.command c) rest _ e) (mine-busy s (w.busy c) _ f))
+      (λ p good. wake_stores (view s w) c t v k p good m (only s rest) (only-head s (w.command c) rest _ e) (mine-some s (w.busy c) _ f))
       (command-here s c (left s rest) (history-here s (pushed s w.history _) (response-here s c (pushed s (w.response c) _) (busy-here s c (none_is s) (words-here s _ (held-here s _ (touched-seen s c v (seen s w))))))))
       (λ u n. command-other u c (left_other u s (w.command c) rest _ n e) (history-other u (pushed_other u s w.history _ n) (response-other u c (pushed_other u s (w.response c) _ n) (busy-other u c (to_none u s _ (w.busy c) n f) (words-other u s _ n (held-other u s _ n (touched-seen s c v (seen u w))))))))
 
   pub keeps_word : (c t v k m : ℕ) (rest : List (ℕ × ToCache)) → w.command c ≡ (s, UcBlk t k m) ∷ rest
       → w.busy c ≡ Some (s, record { op = UcLoad t k; way = v }) → EveryGroup (step_after s (WordComes c t v k m rest) w)
   keeps_word c t v k m rest e f = step s w _ (finished (view s w) c t (UcLoad t k) m (only s rest)) all
-      (λ p good. word_arrives (view s w) c t v k p good m (only s rest) (only-head s (w.command c) rest _ e) (mine-busy s (w.busy c) _ f))
+      (λ p good. word_arrives (view s w) c t v k p good m (only s rest) (only-head s (w.command c) rest _ e) (mine-some s (w.busy c) _ f))
       (command-here s c (left s rest) (history-here s (pushed s w.history _) (response-here s c (pushed s (w.response c) _) (busy-here s c (none_is s) (seen s w)))))
       (λ u n. command-other u c (left_other u s (w.command c) rest _ n e) (history-other u (pushed_other u s w.history _ n) (response-other u c (pushed_other u s (w.response c) _ n) (busy-other u c (to_none u s _ (w.busy c) n f) (seen u w)))))
 
   pub keeps_store : (c t v k m : ℕ) (rest : List (ℕ × ToCache)) → w.command c ≡ (s, UcDone t k) ∷ rest
       → w.busy c ≡ Some (s, record { op = UcStore t k m; way = v }) → EveryGroup (step_after s (StoreComes c t v k m rest) w)
   keeps_store c t v k m rest e f = step s w _ (finished (view s w) c t (UcStore t k m) 0 (only s rest)) all
-      (λ p good. store_arrives (view s w) c t v k p good m (only s rest) (only-head s (w.command c) rest _ e) (mine-busy s (w.busy c) _ f))
+      (λ p good. store_arrives (view s w) c t v k p good m (only s rest) (only-head s (w.command c) rest _ e) (mine-some s (w.busy c) _ f))
       (command-here s c (left s rest) (history-here s (pushed s w.history _) (response-here s c (pushed s (w.response c) _) (busy-here s c (none_is s) (seen s w)))))
       (λ u n. command-other u c (left_other u s (w.command c) rest _ n e) (history-other u (pushed_other u s w.history _ n) (response-other u c (pushed_other u s (w.response c) _ n) (busy-other u c (to_none u s _ (w.busy c) n f) (seen u w)))))
 
   pub keeps_evict : (c t v : ℕ) (rest : List (ℕ × ToCache)) → w.command c ≡ (s, Done t) ∷ rest → w.busy c ≡ Some (s, record { op = Evict t; way = v })
       → EveryGroup (step_after s (EvictComes c t v rest) w)
   keeps_evict c t v rest e f = step s w _ (finished (view s w) c t (Evict t) 0 (only s rest)) all
-      (λ p good. evict_arrives (view s w) c t v 0 p good (only s rest) (only-head s (w.command c) rest _ e) (mine-busy s (w.busy c) _ f))
+      (λ p good. evict_arrives (view s w) c t v 0 p good (only s rest) (only-head s (w.command c) rest _ e) (mine-some s (w.busy c) _ f))
       (command-here s c (left s rest) (history-here s (pushed s w.history _) (response-here s c (pushed s (w.response c) _) (busy-here s c (none_is s) (seen s w)))))
       (λ u n. command-other u c (left_other u s (w.command c) rest _ n e) (history-other u (pushed_other u s w.history _ n) (response-other u c (pushed_other u s (w.response c) _ n) (busy-other u c (to_none u s _ (w.busy c) n f) (seen u w)))))
 
@@ -130,7 +124,7 @@ module _ (s : ℕ) (w : World) (all : EveryGroup w) where
       → w.fill c o ≡ (s, record { tag = t; way = v; state = x; words = ws }) ∷ rest → w.busy c ≡ Some (s, record { op = Load t k; way = v })
       → EveryGroup (step_after s (FillLoads c o t v k x ws rest) w)
   keeps_fill_load c o t v k x ws rest e f = step s w _ (take_fill (loaded (view s w) c t v x ws k) c o (only s rest)) all
-      (λ p good. fill_loads (view s w) c t v k p good o x ws (only s rest) (only-head s (w.fill c o) rest _ e) (mine-busy s (w.busy c) _ f))
+      (λ p good. fill_loads (view s w) c t v k p good o x ws (only s rest) (only-head s (w.fill c o) rest _ e) (mine-some s (w.busy c) _ f))
       (fill-here s c o (left s rest) (history-here s (pushed s w.history _) (response-here s c (pushed s (w.response c) _) (busy-here s c (none_is s) (words-here s _ (held-here s _ (touched-seen s c v (seen s w))))))))
       (λ u n. fill-other u c o (left_other u s (w.fill c o) rest _ n e) (history-other u (pushed_other u s w.history _ n) (response-other u c (pushed_other u s (w.response c) _ n) (busy-other u c (to_none u s _ (w.busy c) n f) (words-other u s _ n (held-other u s _ n (touched-seen s c v (seen u w))))))))
 
@@ -138,7 +132,7 @@ module _ (s : ℕ) (w : World) (all : EveryGroup w) where
       → w.fill c o ≡ (s, record { tag = t; way = v; state = x; words = ws }) ∷ rest → w.busy c ≡ Some (s, record { op = Store t k m; way = v })
       → is_writable x ≡ true → EveryGroup (step_after s (FillStores c o t v k m x ws rest) w)
   keeps_fill_store c o t v k m x ws rest e f y = step s w _ (take_fill (stored (view s w) c t v ws k m) c o (only s rest)) all
-      (λ p good. fill_stores (view s w) c t v k p good m o x ws (only s rest) (only-head s (w.fill c o) rest _ e) (mine-busy s (w.busy c) _ f) y)
+      (λ p good. fill_stores (view s w) c t v k p good m o x ws (only s rest) (only-head s (w.fill c o) rest _ e) (mine-some s (w.busy c) _ f) y)
       (fill-here s c o (left s rest) (history-here s (pushed s w.history _) (response-here s c (pushed s (w.response c) _) (busy-here s c (none_is s) (words-here s _ (held-here s _ (touched-seen s c v (seen s w))))))))
       (λ u n. fill-other u c o (left_other u s (w.fill c o) rest _ n e) (history-other u (pushed_other u s w.history _ n) (response-other u c (pushed_other u s (w.response c) _ n) (busy-other u c (to_none u s _ (w.busy c) n f) (words-other u s _ n (held-other u s _ n (touched-seen s c v (seen u w))))))))
 

@@ -1,5 +1,5 @@
 -- The actions of the engine keep every group good.
-use Rattle.std.proofs.Common.{◌≡◌, ℕ, ◌+◌, ◌≤◌, ◌≢◌, ◌⊎◌, Bool, true, false, cond, eqb, refl, List, [], ◌∷◌, ◌++◌, sym, ◌∙◌, subst, ap, true≢false}
+use Rattle.std.proofs.Common.{◌≡◌, ℕ, ◌+◌, ◌≤◌, ◌≢◌, ◌⊎◌, Bool, true, false, cond, eqb, refl, List, [], ◌∷◌, ◌++◌, sym, ◌∙◌, subst, true≢false}
 use Rattle.std.specs.Prelude.{Option, Some, None}
 use Rattle.bk_base.specs.Tables.{put}
 use Rattle.bk_machine.specs.Tables.{put2}
@@ -11,7 +11,7 @@ use Rattle.bk_machine.proofs.Allowed.{fits, VictimLight}
 use Rattle.bk_machine.specs.Actions.{may_pair, Action, NoGranted, action_after, flushes as flushes_after}
 use Rattle.bk_machine.specs.World.{Group, World, only, mine, view}
 use Rattle.bk_machine.specs.Invariant.{Good, GrantedTransaction, TransactionAt}
-use Rattle.bk_machine.proofs.View.{only-push, only-push_other, only-head, mine-here}
+use Rattle.bk_machine.proofs.View.{only-push, only-push_other, only-head, mine-some, mine-none}
 use Rattle.bk_machine.proofs.Writes.{seen, pushed, left, pushed_other, left_other, some_is, none_is, from_none, from_some, to_none, directory-here, directory-other, pending-here, pending-other, taken-here, taken-other, settled-here, settled-other, request-here, request-other, command-here, command-other, response-here, response-other, transaction-here, transaction-other, memout-here, memout-other, memin-here, memin-other, commands-here, commands-other}
 use Rattle.bk_machine.proofs.Wraps.{Fine, takes, settles}
 use Rattle.bk_machine.specs.Invariant.{EveryGroup}
@@ -24,12 +24,6 @@ use Rattle.bk_machine.proofs.Answer.{own_paid, owner_paid, finished_good}
 use Rattle.bk_base.specs.declared.coh.Coh.{Coh}
 use Rattle.bk_base.specs.declared.coh.Coh.TheVariants.{M}
 use Rattle.bk_base.specs.States.{is_readable, is_owner_like}
-
-mine-some : {X : Type 0} (s : ℕ) (x : Option (ℕ × X)) (y : X) → x ≡ Some (s, y) → mine s x ≡ Some y
-mine-some s x y e = ap (mine s) e ∙ mine-here s y
-
-mine-none : {X : Type 0} (s : ℕ) (x : Option (ℕ × X)) → x ≡ None → mine s x ≡ None
-mine-none s x e = ap (mine s) e
 
 settle-none : (s : ℕ) (transaction : Option (ℕ × Transaction)) → NoGranted transaction → GrantedTransaction (mine s transaction) → mine s transaction ≡ None
 settle-none s None a b = refl

@@ -69,7 +69,7 @@ keeps s (Finishes x) w a all = keeps_finish s w all x a.0.is a.0.granted a.1 a.2
 keeps s Idles w a all = all
 
 -- the empty system is good
-no-entry : (t : ℕ) → Holds (record { tag = 0; state = I }) t → ⊥
+pub no-entry : (t : ℕ) → Holds (record { tag = 0; state = I }) t → ⊥
 no-entry t k = absurd (cc k.is_valid)
 
 pub start : (ways : ℕ) → EveryGroup (empty ways)

@@ -9,10 +9,10 @@ use Rattle.bk_base.specs.States.{is_readable, covers}
 use Rattle.bk_machine.specs.Entries.{Entry, Holds}
 use Rattle.bk_machine.specs.Messages.{op_tag}
 use Rattle.bk_machine.specs.Transactions.{InProgress, Transaction, Debt, Idle, pay, paid}
-use Rattle.bk_machine.specs.World.{World, mine, view}
+use Rattle.bk_machine.specs.World.{World, view}
 use Rattle.bk_machine.specs.Phases.{Flush, NoFlush, FlushSent, FlushDone, Ack, Phase, Free, Open, Flying, Settling, inv_effect, flush_effect}
 use Rattle.bk_machine.specs.Invariant.{Good, Copies, FlushAims, TransactionAt, OpenTransaction, Invariant, Recorded, RecordOf}
-use Rattle.bk_machine.proofs.View.{mine-here}
+use Rattle.bk_machine.proofs.View.{mine-some}
 use Rattle.bk_machine.proofs.DirectoryReads.{Readable}
 
 -- a transaction that isn't granted stands open
@@ -63,7 +63,7 @@ paid-open x d e f = ap (λ (a : Option Debt). pay a (pay x.owner_debt d)) e ∙ 
 
 module _ (k : Shape) (w : World) (inv : Invariant k w) (s : ℕ) (x : Transaction) (is : w.transaction ≡ Some (s, x)) where
   pub now : (view s w).transaction ≡ Some x
-  now = ap (mine s) is ∙ mine-here s x
+  now = mine-some s w.transaction x is
 
   pub phase : Phase
   phase = (inv.groups s).0

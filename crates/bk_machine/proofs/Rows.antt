@@ -5,7 +5,7 @@ use Rattle.std.proofs.lemmas.Bool.Decides.{nat_tests}
 use Rattle.bk_base.specs.Places.{Shape}
 use Rattle.bk_base.specs.declared.coh.Coh.{Coh}
 use Rattle.bk_base.specs.States.{is_writable}
-use Rattle.bk_machine.specs.Entries.{Entry, Holds, holds}
+use Rattle.bk_machine.specs.Entries.{Holds, holds}
 use Rattle.bk_machine.specs.Directory.{find}
 use Rattle.bk_machine.specs.Messages.{Op, Load, Store, UcLoad, UcStore, Evict, ToCache, Inv, StWb, StTr, Blk, StWake, UcBlk, UcDone, Done, FillMessage, ToMemory, Read, Write, WriteWord}
 use Rattle.bk_machine.specs.Transactions.{InProgress}
@@ -15,7 +15,7 @@ use Rattle.bk_machine.specs.CacheTable.{when, at_way, issue_row, issue, block_ro
 use Rattle.bk_machine.specs.Runs.{Event, Issue, Command, Fill, Memory, Engine, step_of}
 use Rattle.bk_machine.specs.Invariant.{InRange, Ranges}
 use Rattle.bk_machine.proofs.Allowed.{StepFits}
-use Rattle.bk_machine.proofs.Summary.{found, not_found}
+use Rattle.bk_machine.proofs.Summary.{found, not_found, is-holds}
 
 -- what a step needs, if there is one
 abbrev pub IfFits : Shape → World → Option (ℕ × Step) → Type 0
@@ -44,9 +44,6 @@ left_is x y e = grind arith
 
 right_is : (x y : Bool) → x && y ≡ true → y ≡ true
 right_is x y e = grind arith
-
-holds_is : (h : Entry) (t : ℕ) → holds h t ≡ true → Holds h t
-holds_is h t e = record { is_valid = grind (arith, nat_tests); is_tag = grind (arith, nat_tests) }
 
 if-busy : (shape : Shape) (w : World) (s c : ℕ) (o : Option (ℕ × InProgress)) (f : InProgress → Option (ℕ × Step)) → w.busy c ≡ o
     → ((b : InProgress) → w.busy c ≡ Some (s, b) → IfFits shape w (f b)) → IfFits shape w (for_busy s o f)
@@ -107,7 +104,7 @@ module _ (shape : Shape) (w : World) (k : Ranges shape w) where
       → IfFits shape w (wake_row w s c t v rest op)
   wake_fits s c t v rest (Load u j) e f = tt
   wake_fits s c t v rest (Store u j n) e f = if-when shape w (eqb u t && holds (w.held s c v) t) s _
-      (λ q. (e, subst (λ (i : ℕ). w.busy c ≡ Some (s, record { op = Store i j n; way = v })) (same u t (left_is _ _ q)) f, holds_is _ t (right_is (eqb u t) _ q)))
+      (λ q. (e, subst (λ (i : ℕ). w.busy c ≡ Some (s, record { op = Store i j n; way = v })) (same u t (left_is _ _ q)) f, is-holds _ t (right_is (eqb u t) _ q)))
   wake_fits s c t v rest (UcLoad u j) e f = tt
   wake_fits s c t v rest (UcStore u j n) e f = tt
   wake_fits s c t v rest (Evict u) e f = tt

@@ -2,13 +2,11 @@
 use Rattle.std.proofs.Common.{ℕ, List, [], ◌∷◌}
 use Rattle.std.specs.Prelude.{Option, Some, None}
 use Rattle.bk_base.specs.Places.{Shape}
-use Rattle.bk_base.specs.declared.coh.Coh.TheVariants.{I}
-use Rattle.bk_machine.specs.Entries.{Holds}
 use Rattle.bk_machine.specs.World.{World, empty}
 use Rattle.bk_machine.specs.Steps.{Step}
 use Rattle.bk_machine.specs.Runs.{Event, Issue, Command, Fill, Memory, Engine, step_of, stepped, happens, MayHappen, Listed, run}
 use Rattle.bk_machine.specs.Invariant.{Invariant}
-use Rattle.bk_machine.proofs.Law.{keeps, keeps_step, start}
+use Rattle.bk_machine.proofs.Law.{keeps, keeps_step, no-entry, start}
 use Rattle.bk_machine.proofs.Ranges.{step_within, action_within}
 use Rattle.bk_machine.proofs.Records.{step_record, action_record}
 use Rattle.bk_machine.proofs.Rows.{IfFits, event_fits}
@@ -36,9 +34,6 @@ event_keeps k w (Engine s a) m inv = record {
 pub run_keeps : (k : Shape) (es : List Event) (w : World) → Listed k es w → Invariant k w → Invariant k (run k es w)
 run_keeps k [] w l inv = inv
 run_keeps k (e ∷ es) w l inv = run_keeps k es (happens k w e) l.1 (event_keeps k w e l.0 inv)
-
-no-entry : (t : ℕ) → Holds (record { tag = 0; state = I }) t → ⊥
-no-entry t h = absurd (cc h.is_valid)
 
 pub empty_keeps : (k : Shape) → Invariant k (empty k.ways)
 empty_keeps k = record {

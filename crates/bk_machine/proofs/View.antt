@@ -1,6 +1,6 @@
 -- How a way group sees each write of the system.
 use Rattle.std.proofs.Common.{◌≡◌, ℕ, ◌≢◌, Bool, true, false, cond, eqb, ◌&&◌, refl, arith, List, [], ◌∷◌, ◌++◌, sym, ◌∙◌, ap}
-use Rattle.std.specs.Prelude.{Some, None}
+use Rattle.std.specs.Prelude.{Option, Some, None}
 use Rattle.std.proofs.lemmas.Bool.Decides.{nat_tests}
 use mathlib.Core.Path.{fun_ext}
 use Rattle.bk_base.specs.Tables.{put}
@@ -106,3 +106,11 @@ chan2-put_same {X} {Y} h f c o x e = fun_ext (λ i. fun_ext (λ j. step i j (eqb
     step : (i j : ℕ) (b : Bool) → eqb i c && eqb j o ≡ b → h (cond b x (f i j)) ≡ h (f i j)
     step i j true q = e ∙ ap (λ (a : ℕ). h (f a o)) (is i j q).0 ∙ ap (λ (a : ℕ). h (f i a)) (is i j q).1
     step i j false q = refl
+
+-- a value of the group, and none
+
+pub mine-some : {X : Type 0} (s : ℕ) (x : Option (ℕ × X)) (y : X) → x ≡ Some (s, y) → mine s x ≡ Some y
+mine-some s x y e = ap (mine s) e ∙ mine-here s y
+
+pub mine-none : {X : Type 0} (s : ℕ) (x : Option (ℕ × X)) → x ≡ None → mine s x ≡ None
+mine-none s x e = ap (mine s) e

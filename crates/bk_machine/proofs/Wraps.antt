@@ -4,7 +4,7 @@ use Rattle.std.specs.Prelude.{Option, Some, None}
 use Rattle.bk_base.specs.Tables.{put}
 use Rattle.bk_base.specs.declared.coh.Coh.{Coh}
 use Rattle.bk_base.specs.States.{is_writable}
-use Rattle.bk_machine.specs.Messages.{Load, Store, UcLoad, UcStore, Evict, Request, ToCache, Blk, StWake, UcBlk, UcDone, Done, FillMessage, Response, CohAck, Block, request_of}
+use Rattle.bk_machine.specs.Messages.{Load, Store, UcLoad, UcStore, Evict, Request, ToCache, Blk, StWake, UcBlk, UcDone, Done, FillMessage, Response, CohAck, request_of}
 use Rattle.bk_machine.specs.Transactions.{InProgress, Transaction, open_transaction, fresh}
 use Rattle.bk_machine.specs.Phases.{Flush, NoFlush, Ack, NoInv, ByBlock, ByWake, ByFill, ByWord, ByDone, Phase, Free, Open, Flying, Settling}
 use Rattle.bk_machine.specs.World.{Group}
@@ -25,9 +25,6 @@ with_transaction g transaction = record g { transaction = transaction }
 
 pub with_transaction-is : (g : Group) (transaction : Option Transaction) → g.transaction ≡ transaction → g ≡ record g { transaction = transaction }
 with_transaction-is g transaction e = ap (λ (y : Option Transaction). record g { transaction = y }) e
-
-with_memin-is : (g : Group) (bs : List Block) → g.memin ≡ bs → g ≡ record g { memin = bs }
-with_memin-is g bs e = ap (λ (y : List Block). record g { memin = y }) e
 
 -- ARRIVALS
 
