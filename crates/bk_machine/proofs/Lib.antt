@@ -33,6 +33,7 @@ pub mod KeepsCaches
 pub mod KeepsEngine
 pub mod Law
 pub mod Ranges
+pub mod Spoken
 pub mod Summary
 pub mod DirectoryReads
 pub mod Opened

@@ -1,12 +1,14 @@
 -- The product's addresses, operations and messages, as the machine speaks of them: an address is its way group, the block's tag in
 -- it and the word's place in the block.
-use Rattle.std.specs.Prelude.{ℕ, List, Option, Some, None, get_or}
+use Rattle.std.specs.Prelude.{ℕ, ◌≡◌, Bool, true, false, List, Option, Some, None, get_or}
 use Rattle.bk_base.specs.Places.{Shape, block_of, word_of, set_of, tag_of}
 use Rattle.bk_base.specs.declared.op.Op.{Op as Operation}
 use Rattle.bk_base.specs.declared.op.Op.TheVariants as ops
 use Rattle.bk_base.specs.declared.op.Done.{Done as Completion}
 use Rattle.bk_msg.specs.declared.row.Row.{Row}
 use Rattle.bk_msg.specs.declared.row.Row.TheVariants as rows
+use Rattle.bk_msg.specs.declared.row.Network.TheVariants as networks
+use Rattle.bk_msg.specs.Networks.{network_of}
 use Rattle.bk_machine.specs.Messages.{Op, Load, Store, UcLoad, UcStore, Evict, Request, Rd, Wr, UcRd, UcWr, EvictRequest, ToCache, Inv, StWb, StTr, Blk, StWake, UcBlk, UcDone, Done, FillMessage, Response, InvAck, CohAck, Wb, NullWb, ToMemory, Read, Write, WriteWord, Block}
 use Rattle.bk_machine.specs.Words.{Completed}
 
@@ -75,3 +77,23 @@ as_to_memory k m = None
 abbrev pub as_block : Shape → Row → Option (ℕ × Block)
 as_block k (rows.Block _ _ addr words) = Some (group_of k addr, record { tag = tag_at k addr; words = words_of words })
 as_block k m = None
+
+-- Each message of the product is one of the machine's, of the network that it travels in.
+
+abbrev pub is_said : {X : Type 0} → Option (ℕ × X) → Bool
+is_said None = false
+is_said (Some x) = true
+
+pub record Spoken (k : Shape) (m : Row) : Type 0 where
+  pub request : network_of m ≡ networks.Request → is_said (as_request k m) ≡ true
+  pub command : network_of m ≡ networks.Command → is_said (as_command k m) ≡ true
+  pub fill : network_of m ≡ networks.Fill → is_said (as_fill k m) ≡ true
+  pub response : network_of m ≡ networks.Response → is_said (as_response k m) ≡ true
+  pub memout : network_of m ≡ networks.Memout → is_said (as_to_memory k m) ≡ true
+  pub memin : network_of m ≡ networks.Memin → is_said (as_block k m) ≡ true
+
+-- two addresses are at one place of the machine: the same way group, tag and word
+pub record AtPlace (k : Shape) (a b : ℕ) : Type 0 where
+  pub group : group_of k a ≡ group_of k b
+  pub tag : tag_at k a ≡ tag_at k b
+  pub word : word_of a ≡ word_of b

@@ -5,4 +5,4 @@
 
 mod theorems;
 
-pub use theorems::{engine_view, example, invariant, protocol, traffic};
+pub use theorems::{engine_view, example, invariant, product_forms, protocol, traffic};

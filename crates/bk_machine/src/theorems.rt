@@ -1,11 +1,13 @@
-ghost use Rattle.std.specs.Prelude.{◌≡◌, ℕ, List};
-ghost use Rattle.bk_base.specs.Places.{Shape};
+ghost use Rattle.std.specs.Prelude.{◌≡◌, ◌<◌, ℕ, List};
+ghost use Rattle.bk_base.specs.Places.{Shape, IsAddr};
 ghost use Rattle.bk_machine.specs.World.{World, empty};
 ghost use Rattle.bk_machine.specs.Runs.{Event, MayHappen, Listed, happens, run};
 ghost use Rattle.bk_machine.specs.Invariant.{Invariant};
 ghost use Rattle.bk_machine.specs.Claims.{Sole, Latest, PendingAgrees, NoForeign, Collectable, Quiet, Rested};
 ghost use Rattle.bk_machine.specs.Readings.{Readings, UnderWay};
 ghost use Rattle.bk_machine.specs.Example.{shape, events, answers};
+ghost use Rattle.bk_msg.specs.declared.row.Row.{Row};
+ghost use Rattle.bk_machine.specs.Products.{Spoken, AtPlace};
 
 /// The invariant is inductive: the empty state has it, each Issue, Command, Fill and Memory event and each permitted action keeps
 /// it, and so every list of them from the empty state on does. This holds for every configuration and for lists of any length.
@@ -45,4 +47,11 @@ pub fn engine_view()
 pub fn example()
     ensures listed { Listed shape events (empty 1) }
     ensures answers { (run shape events (empty 1)).history ≡ answers }
+{}
+
+/// The machine speaks of the product's messages and addresses: each message has a form in the network that it travels in, and two
+/// addresses of one way group, tag and word are the same.
+pub fn product_forms()
+    ensures messages { (k : Shape) (m : Row) → Spoken k m }
+    ensures places { (k : Shape) (a b : ℕ) → IsAddr a → IsAddr b → 0 < k.sets → AtPlace k a b → a ≡ b }
 {}
