@@ -131,7 +131,8 @@ module _ (k : Shape) (w : World) (inv : Invariant k w) (s : ℕ) (x : Transactio
 
 pub under_way : (k : Shape) (w : World) → Invariant k w → UnderWay k w
 under_way k w inv = record {
-  requests = λ s c. subst (λ (xs : List Request). length xs ≤ 1) (sym ((inv.groups s).1.requests c)) (requests-one (is_taken (inv.groups s).0 c) (mine s (w.busy c)));
+  requests =
+      λ s c. subst (λ (xs : List Request). length xs ≤ 1) (sym ((inv.groups s).1.requests c)) (requests-one (is_taken (inv.groups s).0 c) (mine s (w.busy c)));
   commands = λ s c. subst (λ (xs : List ToCache). length xs ≤ 2) (sym ((inv.groups s).1.commands c)) (commands-two (inv.groups s).0 c);
   fills = λ s c o. subst (λ (xs : List FillMessage). length xs ≤ 1) (sym ((inv.groups s).1.fills c o)) (fills-one (inv.groups s).0 c o);
   responses = λ s c. subst (λ (xs : List Response). length xs ≤ 2) (sym ((inv.groups s).1.responses c)) (responses-two (inv.groups s).0 c);

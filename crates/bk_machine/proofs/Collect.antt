@@ -75,7 +75,8 @@ module _ (g : Group) (r c : ℕ) (b : InProgress) (wb : WriteBack) (rd : Reading
     requests = good.requests;
     taker = good.taker;
     placed = good.placed;
-    transaction = record { is_cache = refl; is_request = refl; ungranted = refl; flush = good.transaction.flush; acks = λ i. ack-due i (count-remove_one i c ws some) (good.transaction.acks i); no_requester_debt = refl; no_owner_debt = refl; apart = good.transaction.apart; kept_apart = good.transaction.kept_apart };
+    transaction =
+        record { is_cache = refl; is_request = refl; ungranted = refl; flush = good.transaction.flush; acks = λ i. ack-due i (count-remove_one i c ws some) (good.transaction.acks i); no_requester_debt = refl; no_owner_debt = refl; apart = good.transaction.apart; kept_apart = good.transaction.kept_apart };
     pending = good.pending;
     taken = good.taken;
     copies = record {
@@ -140,7 +141,8 @@ module _ (g : Group) (r c t : ℕ) (b : InProgress) (wb : WriteBack) (rd : Readi
     requests = good.requests;
     taker = good.taker;
     placed = good.placed;
-    transaction = record { is_cache = refl; is_request = refl; ungranted = refl; flush = back-state words; acks = good.transaction.acks; no_requester_debt = refl; no_owner_debt = refl; apart = λ e. refl; kept_apart = back-apart words good.transaction.apart };
+    transaction =
+        record { is_cache = refl; is_request = refl; ungranted = refl; flush = back-state words; acks = good.transaction.acks; no_requester_debt = refl; no_owner_debt = refl; apart = λ e. refl; kept_apart = back-apart words good.transaction.apart };
     pending = good.pending;
     taken = good.taken;
     copies = record {
@@ -150,7 +152,8 @@ module _ (g : Group) (r c t : ℕ) (b : InProgress) (wb : WriteBack) (rd : Readi
       one_owner = good.copies.one_owner;
       real_way = good.copies.real_way;
       real_alone = good.copies.real_alone;
-      standing = (tt, record { not_own = good.copies.standing.1.not_own; gone = good.copies.standing.1.gone; clean = good.copies.standing.1.clean; behind = λ i e. refl });
+      standing =
+          (tt, record { not_own = good.copies.standing.1.not_own; gone = good.copies.standing.1.gone; clean = good.copies.standing.1.clean; behind = λ i e. refl });
     };
     values = record {
       copies = good.values.copies;
@@ -182,7 +185,8 @@ module _ (g : Group) (r t : ℕ) (b : InProgress) (wb : WriteBack) (wr : Bool) (
     requests = good.requests;
     taker = good.taker;
     placed = good.placed;
-    transaction = record { is_cache = refl; is_request = refl; ungranted = refl; flush = good.transaction.flush; acks = good.transaction.acks; no_requester_debt = refl; no_owner_debt = refl; apart = good.transaction.apart; kept_apart = good.transaction.kept_apart };
+    transaction =
+        record { is_cache = refl; is_request = refl; ungranted = refl; flush = good.transaction.flush; acks = good.transaction.acks; no_requester_debt = refl; no_owner_debt = refl; apart = good.transaction.apart; kept_apart = good.transaction.kept_apart };
     pending = good.pending;
     taken = good.taken;
     copies = good.copies;

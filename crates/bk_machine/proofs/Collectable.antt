@@ -102,8 +102,10 @@ module _ (w : World) (all : EveryGroup w) where
 
   pub collectable : Collectable w
   collectable = record {
-    ack = λ u c t rest e. back u (ack-phase (all u).0 c t (only u rest) (mine u w.transaction) (sym ((all u).1.responses c) ∙ only-head u (w.response c) rest (InvAck t) e) (all u).1.transaction);
-    answer = λ u c t words rest e. back u (answer-phase (all u).0 c t words (only u rest) (mine u w.transaction) (sym ((all u).1.responses c) ∙ only-head u (w.response c) rest (answer_of t words) e) (all u).1.transaction);
+    ack =
+        λ u c t rest e. back u (ack-phase (all u).0 c t (only u rest) (mine u w.transaction) (sym ((all u).1.responses c) ∙ only-head u (w.response c) rest (InvAck t) e) (all u).1.transaction);
+    answer =
+        λ u c t words rest e. back u (answer-phase (all u).0 c t words (only u rest) (mine u w.transaction) (sym ((all u).1.responses c) ∙ only-head u (w.response c) rest (answer_of t words) e) (all u).1.transaction);
     block = λ u b rest e. back u (reading-some (mine u w.transaction) (reads (only u w.memout)) (length (only u rest))
         (subst (λ (bs : List Block). reads (only u w.memout) + length bs ≡ cond (is_reading (mine u w.transaction)) 1 0) (only-head u w.memin rest b e) (all u).1.channels.count));
   }

@@ -69,7 +69,8 @@ module _ (g : Group) (r : ℕ) (b : InProgress) (block : Block) (rd : Reading) (
     requests = good.requests;
     taker = good.taker;
     placed = good.placed;
-    transaction = record { is_cache = refl; is_request = refl; ungranted = refl; flush = back-state; acks = good.transaction.acks; no_requester_debt = refl; no_owner_debt = refl; apart = good.transaction.apart; kept_apart = λ e. refl };
+    transaction =
+        record { is_cache = refl; is_request = refl; ungranted = refl; flush = back-state; acks = good.transaction.acks; no_requester_debt = refl; no_owner_debt = refl; apart = good.transaction.apart; kept_apart = λ e. refl };
     pending = good.pending;
     taken = good.taken;
     copies = good.copies;
@@ -77,7 +78,8 @@ module _ (g : Group) (r : ℕ) (b : InProgress) (block : Block) (rd : Reading) (
       copies = good.values.copies;
       memory = back-memory;
       flying = good.values.flying;
-      held = record { kept = tt; read = good.values.held.read; written = back-written wr (request_of b.op b.way) good.transaction.kept_apart good.values.held.written };
+      held =
+          record { kept = tt; read = good.values.held.read; written = back-written wr (request_of b.op b.way) good.transaction.kept_apart good.values.held.written };
     });
     channels = back-channels;
     kind = refl;
@@ -133,7 +135,8 @@ module _ (g : Group) (r : ℕ) (b : InProgress) (wr : Bool) (ws : List ℕ) (inv
     requests = good.requests;
     taker = good.taker;
     placed = good.placed;
-    transaction = record { is_cache = refl; is_request = refl; ungranted = refl; flush = tt; acks = good.transaction.acks; no_requester_debt = refl; no_owner_debt = refl; apart = good.transaction.apart; kept_apart = good.transaction.kept_apart };
+    transaction =
+        record { is_cache = refl; is_request = refl; ungranted = refl; flush = tt; acks = good.transaction.acks; no_requester_debt = refl; no_owner_debt = refl; apart = good.transaction.apart; kept_apart = good.transaction.kept_apart };
     pending = good.pending;
     taken = good.taken;
     copies = good.copies;
@@ -179,7 +182,8 @@ module _ (g : Group) (r w t k n : ℕ) (inv : ℕ → Ack)
     requests = good.requests;
     taker = good.taker;
     placed = good.placed;
-    transaction = record { is_cache = refl; is_request = refl; ungranted = refl; flush = tt; acks = good.transaction.acks; no_requester_debt = refl; no_owner_debt = refl; apart = λ e. refl; kept_apart = λ e. refl };
+    transaction =
+        record { is_cache = refl; is_request = refl; ungranted = refl; flush = tt; acks = good.transaction.acks; no_requester_debt = refl; no_owner_debt = refl; apart = λ e. refl; kept_apart = λ e. refl };
     pending = good.pending;
     taken = good.taken;
     copies = good.copies;

@@ -96,7 +96,8 @@ module _ (g : Group) (r o ow u : ℕ) (x : Coh) (b : InProgress) (rd : Reading) 
     requests = good.requests;
     taker = good.taker;
     placed = good.placed;
-    transaction = record { is_cache = refl; is_request = refl; ungranted = refl; flush = tt; acks = good.transaction.acks; no_requester_debt = refl; no_owner_debt = refl; apart = flush-apart; kept_apart = λ e. refl };
+    transaction =
+        record { is_cache = refl; is_request = refl; ungranted = refl; flush = tt; acks = good.transaction.acks; no_requester_debt = refl; no_owner_debt = refl; apart = flush-apart; kept_apart = λ e. refl };
     pending = good.pending;
     taken = good.taken;
     copies = record {

@@ -85,7 +85,8 @@ module _ (g : Group) (r c w t : ℕ) (x : Coh) (b : InProgress) (inv : ℕ → A
     requests = good.requests;
     taker = good.taker;
     placed = λ i y e. Placed-fewer fewer y.op y.way i (good.placed i y e);
-    transaction = TransactionAt-moves r b (FlushSent c w t x) (FlushDone c t (words_back g c w)) inv inv (elim [ Idle ↦ λ p. p | Asked ↦ λ p. p | Kept y ↦ λ p. p ]) (λ u. refl) (λ i. refl) g.transaction good.transaction;
+    transaction =
+        TransactionAt-moves r b (FlushSent c w t x) (FlushDone c t (words_back g c w)) inv inv (elim [ Idle ↦ λ p. p | Asked ↦ λ p. p | Kept y ↦ λ p. p ]) (λ u. refl) (λ i. refl) g.transaction good.transaction;
     pending = good.pending;
     taken = good.taken;
     copies = record {

@@ -205,7 +205,8 @@ module _ (shape : Shape) (w : World) (all : EveryGroup w) (k : Ranges shape w) w
       let a : (v : ℕ) × Holds (w.held s c v) t = stwb_aims (all s).0 _ _ c t x (only s rest) (head_of s c (StWb t x) rest e) (all s).1.copies.standing in
       acts-found shape w s c t a.0 _ _ k a.1 (λ v. refl)
   never_foreign s c rest (StTr t y peer pv x) e =
-      let a : (v : ℕ) × (Holds (w.held s c v) t) × (peer ≢ c) = sttr_aims (all s).0 _ _ c t y peer pv x (only s rest) (head_of s c (StTr t y peer pv x) rest e) (all s).1.copies.standing in
+      let a : (v : ℕ) × (Holds (w.held s c v) t) × (peer ≢ c) =
+      sttr_aims (all s).0 _ _ c t y peer pv x (only s rest) (head_of s c (StTr t y peer pv x) rest e) (all s).1.copies.standing in
       acts-found shape w s c t a.0 _ _ k a.1 (λ v. other v a.2)
     where
       other : (v : ℕ) → peer ≢ c → has_step (cond (eqb peer c) None (Some (s, TransferComes c v t y peer pv x rest))) ≡ true

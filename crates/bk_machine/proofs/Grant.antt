@@ -141,7 +141,8 @@ module _ (g : Group) (r : ℕ) (b : InProgress) (ws : ℕ → ℕ) (wr : Bool) (
     };
     values = record {
       copies = good.values.copies;
-      memory = λ u k home. good.values.memory u k (record { clean = home.clean; not_flying = refl; not_kept = not_at b.op b.way u k (wr && true) (wants-reads b.op kind) });
+      memory =
+          λ u k home. good.values.memory u k (record { clean = home.clean; not_flying = refl; not_kept = not_at b.op b.way u k (wr && true) (wants-reads b.op kind) });
       flying = read.0;
       held = tt;
     };
@@ -196,7 +197,8 @@ module _ (g : Group) (r w t k n : ℕ) (rd : Reading) (wr : Bool) (inv : ℕ →
 
   pub wake_good : Good (Flying r (record { op = Store t k n; way = w }) ByWake) (record g {
     command = put g.command r (g.command r ++ StWake t w ∷ []);
-    transaction = Some (granted_transaction r (record { op = Store t k n; way = w }) rd wr (Some (record { cache = r; way = w; held = record { tag = t; state = M } })) None);
+    transaction =
+        Some (granted_transaction r (record { op = Store t k n; way = w }) rd wr (Some (record { cache = r; way = w; held = record { tag = t; state = M } })) None);
   })
   wake_good = record {
     commands = wake-commands;

@@ -311,7 +311,8 @@ module _ (p : Phase) (g : Group) (c t w k n : ℕ) (good : Good p g) (idle : g.b
 
   hit-channels : (y : Bool) → is_reading g.transaction ≡ y → MemoryChannels g.transaction g.memory v2 g.memout g.memin
   hit-channels true e =
-      let same : Same (v (transaction_tag g.transaction)) (v2 (transaction_tag g.transaction)) = hit-same (transaction_tag g.transaction) (light-apart (transaction_tag g.transaction) (reading-light g.transaction g.held v a e good.values.held)) in
+      let same : Same (v (transaction_tag g.transaction)) (v2 (transaction_tag g.transaction)) =
+      hit-same (transaction_tag g.transaction) (light-apart (transaction_tag g.transaction) (reading-light g.transaction g.held v a e good.values.held)) in
       record { count = good.channels.count; to = ReadsFor-same _ _ _ _ g.memout same good.channels.to; back = BlocksFor-same _ _ _ g.memin same good.channels.back }
   hit-channels false e = channels-none g.transaction g.transaction g.memory v v2 g.memout g.memin e e good.channels
 

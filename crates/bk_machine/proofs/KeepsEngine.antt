@@ -39,7 +39,8 @@ settles_on : (p : Phase) (g : Group) (c t : ℕ) (rest : List Response) → Good
 settles_on p g c t rest good f k =
     let head : (p ≡ Settling c t) × (rest ≡ []) = settle_head p c t rest (sym (good.responses c) ∙ k) in
     let e : g.transaction ≡ None = f (subst (λ (q : Phase). TransactionAt q g.transaction) head.0 good.transaction) in
-    let fine : Fine (record g { response = put g.response c rest; transaction = None; pending = false; settled = g.settled + 1 }) = settles p g c t rest good e k in
+    let fine : Fine (record g { response = put g.response c rest; transaction = None; pending = false; settled = g.settled + 1 }) =
+    settles p g c t rest good e k in
     (fine.0, subst (λ (transaction : Option Transaction). Good fine.0 (record g { response = put g.response c rest; transaction = transaction; pending = false; settled = g.settled + 1 })) (sym e) fine.1)
 
 sent-here : (s u : ℕ) (to : List ℕ) (t c : ℕ) (xs : List (ℕ × ToCache)) (b : Bool)
@@ -132,7 +133,8 @@ module _ (s : ℕ) (w : World) (all : EveryGroup w) (x : Transaction) (is : w.tr
       → ((c v : ℕ) → c ≢ x.cache → Holds (w.directory s c v) (request_tag x.request) → fits y (w.directory s c v).state ≡ true) → EveryGroup (action_after s (Action.GrantsByBlock ws y x) w)
   keeps_grant_block ws y f i j a b su d e g = step s w _ (record (view s w) {
     command = put (view s w).command x.cache ((view s w).command x.cache ++ Blk (request_tag x.request) (request_way x.request) y ws ∷ []);
-    transaction = Some (record x { granted = true; requester_debt = Some (record { cache = x.cache; way = request_way x.request; held = record { tag = request_tag x.request; state = y } }) });
+    transaction =
+        Some (record x { granted = true; requester_debt = Some (record { cache = x.cache; way = request_way x.request; held = record { tag = request_tag x.request; state = y } }) });
   }) all
       (λ p good. grants_block p (view s w) x good now f i j ws y a b su d e g)
       (transaction-here s (some_is s _) (command-here s x.cache (pushed s (w.command x.cache) _) (seen s w)))

@@ -39,13 +39,15 @@ module _ (p : Phase) (g : Group) (good : Good p g) where
     kind = good.kind;
     answers = good.answers;
     values = subst (λ (ms : List ToMemory). Values p g.transaction g.held g.words (latest g.history) (effective g.memory ms)) e good.values;
-    channels = channels-read g.transaction g.memory (latest g.history) u rest g.memin (subst (λ (ms : List ToMemory). MemoryChannels g.transaction g.memory (latest g.history) ms g.memin) e good.channels);
+    channels =
+        channels-read g.transaction g.memory (latest g.history) u rest g.memin (subst (λ (ms : List ToMemory). MemoryChannels g.transaction g.memory (latest g.history) ms g.memin) e good.channels);
   }
 
   pub write_comes : (u : ℕ) (ws : ℕ → ℕ) (rest : List ToMemory) → g.memout ≡ Write u ws ∷ rest
       → Good p (record g { memout = rest; memory = write_block g.memory u ws })
   write_comes u ws rest e =
-      let c : MemoryChannels g.transaction g.memory (latest g.history) (Write u ws ∷ rest) g.memin = subst (λ (ms : List ToMemory). MemoryChannels g.transaction g.memory (latest g.history) ms g.memin) e good.channels in
+      let c : MemoryChannels g.transaction g.memory (latest g.history) (Write u ws ∷ rest) g.memin =
+      subst (λ (ms : List ToMemory). MemoryChannels g.transaction g.memory (latest g.history) ms g.memin) e good.channels in
       record {
         commands = good.commands;
         fills = good.fills;
@@ -66,7 +68,8 @@ module _ (p : Phase) (g : Group) (good : Good p g) where
   pub write_word_comes : (u k n : ℕ) (rest : List ToMemory) → g.memout ≡ WriteWord u k n ∷ rest
       → Good p (record g { memout = rest; memory = write_word g.memory u k n })
   write_word_comes u k n rest e =
-      let c : MemoryChannels g.transaction g.memory (latest g.history) (WriteWord u k n ∷ rest) g.memin = subst (λ (ms : List ToMemory). MemoryChannels g.transaction g.memory (latest g.history) ms g.memin) e good.channels in
+      let c : MemoryChannels g.transaction g.memory (latest g.history) (WriteWord u k n ∷ rest) g.memin =
+      subst (λ (ms : List ToMemory). MemoryChannels g.transaction g.memory (latest g.history) ms g.memin) e good.channels in
       record {
         commands = good.commands;
         fills = good.fills;

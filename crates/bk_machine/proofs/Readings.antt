@@ -46,7 +46,8 @@ module _ (r : ℕ) (b : InProgress) (fl : Flush) (inv : ℕ → Ack) (d h : ℕ 
   open-copy : (c v t : ℕ) → Holds (d c v) t → Holds (h c v) t
   open-copy c v t k = record {
     is_valid = open-held r b fl inv d h copies c v t k;
-    is_tag = sym (inv-tag (op_tag b.op) (inv c) (flush_effect fl c v (h c v)) ∙ flush-tag fl c v (h c v)) ∙ sym ((copies.matches c v).same_tag k.is_valid) ∙ k.is_tag;
+    is_tag =
+        sym (inv-tag (op_tag b.op) (inv c) (flush_effect fl c v (h c v)) ∙ flush-tag fl c v (h c v)) ∙ sym ((copies.matches c v).same_tag k.is_valid) ∙ k.is_tag;
   }
 
   open-write : (c v : ℕ) → is_writable (h c v).state ≡ false → is_writable (d c v).state ≡ false
@@ -122,7 +123,8 @@ module _ (k : Shape) (w : World) (inv : Invariant k w) (s : ℕ) (x : Transactio
     open_readings = record {
       rd = rd-own;
       wr = wr-own;
-      owner = λ o v a c u n h l. owner-only k (w.directory s) good x.cache (request_tag x.request) o v (owner-at k (w.directory s) good x.cache (request_tag x.request) o v a.is_owner a.is_way) c u h l;
+      owner =
+          λ o v a c u n h l. owner-only k (w.directory s) good x.cache (request_tag x.request) o v (owner-at k (w.directory s) good x.cache (request_tag x.request) o v a.is_owner a.is_way) c u h l;
       nobody = nobody k (w.directory s) good x.cache (request_tag x.request);
     }
 

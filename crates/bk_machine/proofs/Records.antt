@@ -143,7 +143,8 @@ module _ (k : Shape) (s : ℕ) (w : World) (inv : Invariant k w) where
     range = o.range;
     holds = subst (λ (h : Entry). Holds h (request_tag x.request)) (sym (same e.cache e.way o.other)) o.holds;
     owner_like = ap (λ (h : Entry). is_owner_like h.state) (same e.cache e.way o.other) ∙ o.owner_like;
-    only = λ c v n h l. o.only c v n (subst (λ (i : Entry). Holds i (request_tag x.request)) (same c v n) h) (ap (λ (i : Entry). is_owner_like i.state) (sym (same c v n)) ∙ l);
+    only =
+        λ c v n h l. o.only c v n (subst (λ (i : Entry). Holds i (request_tag x.request)) (same c v n) h) (ap (λ (i : Entry). is_owner_like i.state) (sym (same c v n)) ∙ l);
   }
     where
       same : (i j : ℕ) → i ≢ x.cache → put2 (w.directory s) d.cache d.way d.held i j ≡ w.directory s i j

@@ -113,7 +113,8 @@ module _ (g : Group) (r : ℕ) (b : InProgress) (wb : WriteBack) (rd : Reading) 
     requests = good.requests;
     taker = good.taker;
     placed = good.placed;
-    transaction = record { is_cache = refl; is_request = refl; ungranted = refl; flush = good.transaction.flush; acks = sent-due; no_requester_debt = refl; no_owner_debt = refl; apart = good.transaction.apart; kept_apart = good.transaction.kept_apart };
+    transaction =
+        record { is_cache = refl; is_request = refl; ungranted = refl; flush = good.transaction.flush; acks = sent-due; no_requester_debt = refl; no_owner_debt = refl; apart = good.transaction.apart; kept_apart = good.transaction.kept_apart };
     pending = good.pending;
     taken = good.taken;
     copies = record {

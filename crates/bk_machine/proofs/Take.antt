@@ -23,7 +23,8 @@ module _ (g : Group) (c : ℕ) (b : InProgress) (rest : List Request) (good : Go
     requests = taken-requests;
     taker = busy;
     placed = good.placed;
-    transaction = record { is_cache = refl; is_request = refl; ungranted = refl; flush = tt; acks = λ i. refl; no_requester_debt = refl; no_owner_debt = refl; apart = λ e. refl; kept_apart = λ e. refl };
+    transaction =
+        record { is_cache = refl; is_request = refl; ungranted = refl; flush = tt; acks = λ i. refl; no_requester_debt = refl; no_owner_debt = refl; apart = λ e. refl; kept_apart = λ e. refl };
     pending = refl;
     taken = omega (arith, good.taken);
     copies = record {

@@ -136,7 +136,8 @@ module _ (g : Group) (r o ow : ℕ) (b : InProgress) (rd : Reading) (wr : Bool) 
 
   pub transfer_good : Good (Flying r b (ByTransfer o ow y x)) (record g {
     command = put g.command o (g.command o ++ StTr (op_tag b.op) y r b.way x ∷ []);
-    transaction = Some (granted_transaction r b rd wr (Some (record { cache = r; way = b.way; held = record { tag = op_tag b.op; state = x } })) (Some (record { cache = o; way = ow; held = record { tag = op_tag b.op; state = y } })));
+    transaction =
+        Some (granted_transaction r b rd wr (Some (record { cache = r; way = b.way; held = record { tag = op_tag b.op; state = x } })) (Some (record { cache = o; way = ow; held = record { tag = op_tag b.op; state = y } })));
   })
   transfer_good = record {
     commands = transfer-commands;
@@ -166,7 +167,8 @@ module _ (g : Group) (r o ow : ℕ) (b : InProgress) (rd : Reading) (wr : Bool) 
     };
     values = record {
       copies = good.values.copies;
-      memory = λ u k home. good.values.memory u k (record { clean = home.clean; not_flying = refl; not_kept = not_at b.op b.way u k (wr && true) (wants-reads b.op kind) });
+      memory =
+          λ u k home. good.values.memory u k (record { clean = home.clean; not_flying = refl; not_kept = not_at b.op b.way u k (wr && true) (wants-reads b.op kind) });
       flying = tt;
       held = tt;
     };

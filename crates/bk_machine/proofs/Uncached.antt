@@ -109,7 +109,8 @@ pub store_comes : (g : Group) (c t w k n : ℕ) (rest : List ToCache) → Good (
     → Good (Settling c t) (finished g c t (UcStore t k n) 0 rest)
 store_comes g c t w k n rest good last = finished-good g c w (UcStore t k n) ByDone rest good last t 0 (done_only c w (UcStore t k n)) (λ i o. refl) (λ i v h. refl) refl (record {
   copies = store-words g c t w k n good;
-  memory = λ u j home. store-memory g c t w k n good u j home (λ e. good.values.memory u j (record { clean = home.clean; not_flying = e; not_kept = home.not_kept }));
+  memory =
+      λ u j home. store-memory g c t w k n good u j home (λ e. good.values.memory u j (record { clean = home.clean; not_flying = e; not_kept = home.not_kept }));
   flying = tt;
   held = OpenValues-granted g.transaction _ _ _ good.transaction;
 })

@@ -32,51 +32,59 @@ module _ (g : Group) (c t w k : ℕ) (p : Phase) (good : Good p g) where
   pub block_loads : (x : Coh) (ws : ℕ → ℕ) (rest : List ToCache) → g.command c ≡ Blk t w x ws ∷ rest → g.busy c ≡ Some (record { op = Load t k; way = w })
       → Fine (take_command (loaded g c t w x ws k) c rest)
   block_loads x ws rest e f =
-      let head : (p ≡ Flying c (record { op = Load t k; way = w }) (ByBlock x ws)) × (rest ≡ []) = blk_head p g.busy c t w x ws rest _ (sym (good.commands c) ∙ e) good.taker f in
+      let head : (p ≡ Flying c (record { op = Load t k; way = w }) (ByBlock x ws)) × (rest ≡ []) =
+      blk_head p g.busy c t w x ws rest _ (sym (good.commands c) ∙ e) good.taker f in
       (_, block_loaded g c t w k x ws rest (subst (λ (p : Phase). Good p g) head.0 good) head.1)
 
   pub block_stores : (n : ℕ) (x : Coh) (ws : ℕ → ℕ) (rest : List ToCache) → g.command c ≡ Blk t w x ws ∷ rest
       → g.busy c ≡ Some (record { op = Store t k n; way = w }) → is_writable x ≡ true → Fine (take_command (stored g c t w ws k n) c rest)
   block_stores n x ws rest e f writes =
-      let head : (p ≡ Flying c (record { op = Store t k n; way = w }) (ByBlock x ws)) × (rest ≡ []) = blk_head p g.busy c t w x ws rest _ (sym (good.commands c) ∙ e) good.taker f in
+      let head : (p ≡ Flying c (record { op = Store t k n; way = w }) (ByBlock x ws)) × (rest ≡ []) =
+      blk_head p g.busy c t w x ws rest _ (sym (good.commands c) ∙ e) good.taker f in
       (_, block_stored g c t w k n x ws rest (subst (λ (p : Phase). Good p g) head.0 good) writes head.1)
 
   pub wake_stores : (n : ℕ) (rest : List ToCache) → g.command c ≡ StWake t w ∷ rest → g.busy c ≡ Some (record { op = Store t k n; way = w })
       → Fine (take_command (stored g c t w (g.words c w) k n) c rest)
   wake_stores n rest e f =
-      let head : (p ≡ Flying c (record { op = Store t k n; way = w }) ByWake) × (rest ≡ []) = wake_head p g.busy c t w rest _ (sym (good.commands c) ∙ e) good.taker f in
+      let head : (p ≡ Flying c (record { op = Store t k n; way = w }) ByWake) × (rest ≡ []) =
+      wake_head p g.busy c t w rest _ (sym (good.commands c) ∙ e) good.taker f in
       (_, wake_stored g c t w k n rest (subst (λ (p : Phase). Good p g) head.0 good) head.1)
 
   pub fill_loads : (o : ℕ) (x : Coh) (ws : ℕ → ℕ) (rest : List FillMessage) → g.fill c o ≡ record { tag = t; way = w; state = x; words = ws } ∷ rest
       → g.busy c ≡ Some (record { op = Load t k; way = w })
       → Fine (take_fill (loaded g c t w x ws k) c o rest)
   fill_loads o x ws rest e f =
-      let head : (p ≡ Flying c (record { op = Load t k; way = w }) (ByFill o x ws)) × (rest ≡ []) = fill_head p g.busy c o (record { tag = t; way = w; state = x; words = ws }) rest _ (sym (good.fills c o) ∙ e) good.taker f in
+      let head : (p ≡ Flying c (record { op = Load t k; way = w }) (ByFill o x ws)) × (rest ≡ []) =
+      fill_head p g.busy c o (record { tag = t; way = w; state = x; words = ws }) rest _ (sym (good.fills c o) ∙ e) good.taker f in
       (_, fill_loaded g c o t w k x ws rest (subst (λ (p : Phase). Good p g) head.0 good) head.1)
 
   pub fill_stores : (n o : ℕ) (x : Coh) (ws : ℕ → ℕ) (rest : List FillMessage) → g.fill c o ≡ record { tag = t; way = w; state = x; words = ws } ∷ rest
       → g.busy c ≡ Some (record { op = Store t k n; way = w }) → is_writable x ≡ true
       → Fine (take_fill (stored g c t w ws k n) c o rest)
   fill_stores n o x ws rest e f writes =
-      let head : (p ≡ Flying c (record { op = Store t k n; way = w }) (ByFill o x ws)) × (rest ≡ []) = fill_head p g.busy c o (record { tag = t; way = w; state = x; words = ws }) rest _ (sym (good.fills c o) ∙ e) good.taker f in
+      let head : (p ≡ Flying c (record { op = Store t k n; way = w }) (ByFill o x ws)) × (rest ≡ []) =
+      fill_head p g.busy c o (record { tag = t; way = w; state = x; words = ws }) rest _ (sym (good.fills c o) ∙ e) good.taker f in
       (_, fill_stored g c o t w k n x ws rest (subst (λ (p : Phase). Good p g) head.0 good) writes head.1)
 
   pub word_arrives : (n : ℕ) (rest : List ToCache) → g.command c ≡ UcBlk t k n ∷ rest → g.busy c ≡ Some (record { op = UcLoad t k; way = w })
       → Fine (finished g c t (UcLoad t k) n rest)
   word_arrives n rest e f =
-      let head : (p ≡ Flying c (record { op = UcLoad t k; way = w }) (ByWord n)) × (rest ≡ []) = word_head p g.busy c t k n rest _ (sym (good.commands c) ∙ e) good.taker f in
+      let head : (p ≡ Flying c (record { op = UcLoad t k; way = w }) (ByWord n)) × (rest ≡ []) =
+      word_head p g.busy c t k n rest _ (sym (good.commands c) ∙ e) good.taker f in
       (_, word_comes g c t w k n rest (subst (λ (p : Phase). Good p g) head.0 good) head.1)
 
   pub store_arrives : (n : ℕ) (rest : List ToCache) → g.command c ≡ UcDone t k ∷ rest → g.busy c ≡ Some (record { op = UcStore t k n; way = w })
       → Fine (finished g c t (UcStore t k n) 0 rest)
   store_arrives n rest e f =
-      let head : (p ≡ Flying c (record { op = UcStore t k n; way = w }) ByDone) × (rest ≡ []) = uc_done_head p g.busy c t k rest _ (sym (good.commands c) ∙ e) good.taker f in
+      let head : (p ≡ Flying c (record { op = UcStore t k n; way = w }) ByDone) × (rest ≡ []) =
+      uc_done_head p g.busy c t k rest _ (sym (good.commands c) ∙ e) good.taker f in
       (_, store_comes g c t w k n rest (subst (λ (p : Phase). Good p g) head.0 good) head.1)
 
   pub evict_arrives : (rest : List ToCache) → g.command c ≡ Done t ∷ rest → g.busy c ≡ Some (record { op = Evict t; way = w })
       → Fine (finished g c t (Evict t) 0 rest)
   evict_arrives rest e f =
-      let head : (p ≡ Flying c (record { op = Evict t; way = w }) ByDone) × (rest ≡ []) = done_head p g.busy c t rest _ (sym (good.commands c) ∙ e) good.taker f in
+      let head : (p ≡ Flying c (record { op = Evict t; way = w }) ByDone) × (rest ≡ []) =
+      done_head p g.busy c t rest _ (sym (good.commands c) ∙ e) good.taker f in
       (_, evict_comes g c t w rest (subst (λ (p : Phase). Good p g) head.0 good) head.1)
 
 -- THE ENGINE
@@ -125,7 +133,8 @@ opened p g x good e f = at p (subst (λ (h : Group). Good p h) (with_transaction
     at : (p : Phase) → Good p (record g { transaction = Some x }) → Opened g x
     at Free q = absurd (cc (f, q.transaction.0))
     at (Open r b fl inv) q =
-        let q2 : Good (Open x.cache b fl inv) (record g { transaction = Some x }) = subst (λ (r : ℕ). Good (Open r b fl inv) (record g { transaction = Some x })) (sym q.transaction.is_cache) q in
+        let q2 : Good (Open x.cache b fl inv) (record g { transaction = Some x }) =
+        subst (λ (r : ℕ). Good (Open r b fl inv) (record g { transaction = Some x })) (sym q.transaction.is_cache) q in
         let s : x ≡ open_transaction x.cache b x.write_back x.reading x.written x.waiting = shape x.cache b fl inv q2.transaction in
         record { busy = b; fl = fl; inv = inv; shape = s; good = subst (λ (y : Transaction). Good (Open x.cache b fl inv) (record g { transaction = Some y })) s q2 }
     at (Flying r b f2) q = absurd (cc (f, q.transaction.0))

@@ -94,5 +94,6 @@ opened_idle p g x good is ungranted idle =
       busy = o.busy;
       inv = o.inv;
       shape = subst (λ (wb : WriteBack). x ≡ open_transaction x.cache o.busy wb x.reading x.written x.waiting) idle o.shape;
-      good = subst (λ (f : Flush). Good (Open x.cache o.busy f o.inv) (record g { transaction = Some (open_transaction x.cache o.busy Idle x.reading x.written x.waiting) })) (idle_flush o.fl good2.transaction.flush) good2;
+      good =
+          subst (λ (f : Flush). Good (Open x.cache o.busy f o.inv) (record g { transaction = Some (open_transaction x.cache o.busy Idle x.reading x.written x.waiting) })) (idle_flush o.fl good2.transaction.flush) good2;
     }

@@ -59,7 +59,8 @@ opened_quiet p g x good is ungranted idle none =
       busy = o.busy;
       inv = o.inv;
       shape = subst (λ (ws : List ℕ). x ≡ open_transaction x.cache o.busy Idle x.reading x.written ws) none o.shape;
-      good = subst (λ (ws : List ℕ). Good (Open x.cache o.busy NoFlush o.inv) (record g { transaction = Some (open_transaction x.cache o.busy Idle x.reading x.written ws) })) none o.good;
+      good =
+          subst (λ (ws : List ℕ). Good (Open x.cache o.busy NoFlush o.inv) (record g { transaction = Some (open_transaction x.cache o.busy Idle x.reading x.written ws) })) none o.good;
     }
 
 shape-tag : (x : Transaction) (b : InProgress) (y : Transaction) → x ≡ y → y.request ≡ request_of b.op b.way → request_tag x.request ≡ op_tag b.op
@@ -142,7 +143,8 @@ module _ (p : Phase) (g : Group) (x : Transaction) (good : Good p g) (is : g.tra
       → ((c w : ℕ) → c ≢ x.cache → Holds (g.directory c w) (request_tag x.request) → fits y (g.directory c w).state ≡ true)
       → Fine (record g {
         command = put g.command x.cache (g.command x.cache ++ Blk (request_tag x.request) (request_way x.request) y ws ∷ []);
-        transaction = Some (record x { granted = true; requester_debt = Some (record { cache = x.cache; way = request_way x.request; held = record { tag = request_tag x.request; state = y } }) });
+        transaction =
+            Some (record x { granted = true; requester_debt = Some (record { cache = x.cache; way = request_way x.request; held = record { tag = request_tag x.request; state = y } }) });
       })
   grants_block ws y got e sui v victim fit =
       let good2 : Good (Open x.cache q.busy NoFlush q.inv) (record g { transaction = Some (open_transaction x.cache q.busy Idle (Got ws) x.written []) }) =
@@ -151,7 +153,8 @@ module _ (p : Phase) (g : Group) (x : Transaction) (good : Good p g) (is : g.tra
         Flying x.cache q.busy (ByBlock y ws),
         rw (tag, way e) (subst (λ (z : Transaction). Good (Flying x.cache q.busy (ByBlock y ws)) (record g {
           command = put g.command x.cache (g.command x.cache ++ Blk (op_tag q.busy.op) q.busy.way y ws ∷ []);
-          transaction = Some (record z { granted = true; requester_debt = Some (record { cache = x.cache; way = q.busy.way; held = record { tag = op_tag q.busy.op; state = y } }) });
+          transaction =
+              Some (record z { granted = true; requester_debt = Some (record { cache = x.cache; way = q.busy.way; held = record { tag = op_tag q.busy.op; state = y } }) });
         })) (sym s)
             (block_good g x.cache q.busy ws x.written q.inv y good2 (kind e) (suit y sui) v (victim_is e victim) (λ c w n l. fit c w n (at_tag c w l)))),
       )
