@@ -1,23 +1,25 @@
 -- The law of the table machine.
-use Rattle.std.proofs.Common.{◌≡◌, ℕ, ◌+◌, ◌<◌, ◌≤◌, ◌≢◌, Bool, true, false, cond, not, eqb, refl, arith, List, [], ◌∷◌, sym, subst}
+use Rattle.std.proofs.Common.{◌++◌, ◌∙◌, ap, ◌≡◌, ℕ, ◌+◌, ◌<◌, ◌≤◌, ◌≢◌, Bool, true, false, cond, not, eqb, refl, arith, List, [], ◌∷◌, sym, subst}
+use Rattle.std.specs.Prelude.{Option, Some, None}
 use Rattle.std.proofs.lemmas.Bool.Decides.{nat_tests}
 use Rattle.bk_base.specs.Places.{Shape}
 use Rattle.bk_base.specs.Tables.{put}
 use Rattle.bk_base.specs.declared.coh.Coh.TheVariants.{I}
 use Rattle.bk_machine.specs.Entries.{Holds}
 use Rattle.bk_machine.specs.Phases.{Free}
-use Rattle.bk_machine.specs.Words.{Completed, Answers, after_op}
+use Rattle.bk_machine.specs.Words.{Completed, Answers, after_op, answer_is}
 use Rattle.bk_machine.specs.Invariant.{is_free}
 use Rattle.bk_machine.specs.World.{World, only, empty}
-use Rattle.bk_machine.specs.Messages.{request_tag, request_way}
+use Rattle.bk_machine.specs.Messages.{Op, request_tag, request_way}
 use Rattle.bk_machine.specs.Actions.{Action, action_after, Takes, Settles, CollectsAck, CollectsAnswer, CollectsBlock, Invalidates, FlushesVictim, FlushesOwn, FlushesOwner, WritesBack, ReadsMemory, WritesWord, GrantsByBlock, GrantsByWake, GrantsByTransfer, AnswersWord, AnswersStore, AnswersEvict, PaysRequester, PaysOwner, Finishes, Idles}
 use Rattle.bk_machine.proofs.Allowed.{Allowed, StepFits}
 use Rattle.bk_machine.specs.Steps.{Step, step_after, LoadHits, StoreHits, Asks, EvictIdles, InvComes, FlushComes, TransferComes, BlockLoads, BlockStores, WakeStores, WordComes, StoreComes, EvictComes, FillLoads, FillStores, MemoryReads, MemoryWrites, MemoryWritesWord}
 use Rattle.bk_machine.proofs.View.{only-head, only-rest, put-here, put-other}
-use Rattle.bk_machine.specs.Claims.{Sole, AllAnswers, Latest, PendingAgrees}
+use Rattle.bk_machine.specs.Claims.{Sole, Latest, PendingAgrees, stored_in, stored_by, latest_store, latest_value}
 use Rattle.bk_machine.specs.Invariant.{EveryGroup}
 use Rattle.bk_machine.proofs.KeepsCaches.{keeps_inv, keeps_flush, keeps_transfer, keeps_load_hit, keeps_store_hit, keeps_ask, keeps_evict_idle, keeps_block_load, keeps_block_store, keeps_wake, keeps_word, keeps_store, keeps_evict, keeps_fill_load, keeps_fill_store, keeps_read, keeps_write, keeps_write_word}
 use Rattle.bk_machine.proofs.KeepsEngine.{keeps_take, keeps_settle, keeps_ack, keeps_back, keeps_got, keeps_invalidate, keeps_flush_sent, keeps_write_back, keeps_read_sent, keeps_word_sent, keeps_grant_block, keeps_grant_wake, keeps_grant_transfer, keeps_answer_word, keeps_answer_store, keeps_answer_evict, keeps_pay_own, keeps_pay_owner, keeps_finish}
+use mathlib.Core.Path.{fun_ext}
 
 -- each step and each action keeps every way group good
 pub keeps_step : (shape : Shape) (s : ℕ) (a : Step) (w : World) → StepFits shape s a w → EveryGroup w → EveryGroup (step_after s a w)
@@ -109,6 +111,11 @@ sole w all = record {
   one_way = λ s t c v i k l. (all s).1.copies.real_way t c v i k l;
 }
 
+-- each answer of a history is right, where the words had these values (by group, tag, word) at first
+abbrev AllAnswers : (ℕ → ℕ → ℕ → ℕ) → List (ℕ × Completed) → Type 0
+AllAnswers v [] = Unit {0}
+AllAnswers v (d ∷ ds) = answer_is d.1.op (v d.0) d.1.answer × AllAnswers (put v d.0 (after_op d.1.op (v d.0))) ds
+
 answers-tail : (s u : ℕ) (v : ℕ → ℕ → ℕ → ℕ) (d : Completed) (ds : List (ℕ × Completed)) → ((i : ℕ) → Answers (v i) (only i ((s, d) ∷ ds)))
     → Answers (put v s (after_op d.op (v s)) u) (only u ds)
 answers-tail s u v d ds f = decide (eqb u s) refl
@@ -132,8 +139,57 @@ all-answers v (x ∷ ds) f = (
   all-answers (put v x.0 (after_op x.1.op (v x.0))) ds (λ u. answers-tail x.0 u v x.1 ds f),
 )
 
+-- the words' values after a history
+abbrev tables : (ℕ → ℕ → ℕ → ℕ) → List (ℕ × Completed) → ℕ → ℕ → ℕ → ℕ
+tables v [] = v
+tables v (d ∷ ds) = tables (put v d.0 (after_op d.1.op (v d.0))) ds
+
+answer-at : (v : ℕ → ℕ → ℕ → ℕ) (xs : List (ℕ × Completed)) (d : ℕ × Completed) (ys : List (ℕ × Completed)) → AllAnswers v (xs ++ d ∷ ys)
+    → answer_is d.1.op (tables v xs d.0) d.1.answer
+answer-at v [] d ys a = a.0
+answer-at v (x ∷ xs) d ys a = answer-at (put v x.0 (after_op x.1.op (v x.0))) xs d ys a.1
+
+or-else : Option ℕ → ℕ → ℕ
+or-else None n = n
+or-else (Some m) n = m
+
+after-store : (op : Op) (v : ℕ → ℕ → ℕ) (t k : ℕ) → after_op op v t k ≡ or-else (stored_in op t k) (v t k)
+unfolding or-else
+after-store op v t k = grind (arith, nat_tests)
+
+tables-are : (v : ℕ → ℕ → ℕ → ℕ) (xs : List (ℕ × Completed)) (s t k : ℕ) → tables v xs s t k ≡ or-else (latest_store xs s t k) (v s t k)
+unfolding or-else put
+tables-are v [] s t k = refl
+tables-are v (d ∷ ds) s t k = tables-are (put v d.0 (after_op d.1.op (v d.0))) ds s t k ∙ last (latest_store ds s t k)
+  where
+    one : put v d.0 (after_op d.1.op (v d.0)) s t k ≡ or-else (stored_by d s t k) (v s t k)
+    one = decide (eqb s d.0) refl
+      where
+        is : eqb s d.0 ≡ true → d.0 ≡ s
+        is e = grind (arith, nat_tests)
+
+        decide : (b : Bool) → eqb s d.0 ≡ b → cond b (after_op d.1.op (v d.0)) (v s) t k ≡ or-else (cond b (stored_in d.1.op t k) None) (v s t k)
+        decide true e = after-store d.1.op (v d.0) t k ∙ ap (λ (i : ℕ). or-else (stored_in d.1.op t k) (v i t k)) (is e)
+        decide false e = refl
+
+    last : (o : Option ℕ) → or-else o (put v d.0 (after_op d.1.op (v d.0)) s t k)
+        ≡ or-else (elim o as (λ q. Option ℕ) [ Some n ↦ Some n | None ↦ stored_by d s t k ]) (v s t k)
+    last (Some n) = refl
+    last None = one
+
+value-is : (xs : List (ℕ × Completed)) (s t k : ℕ) → tables (λ s t k. 0) xs s t k ≡ latest_value xs s t k
+unfolding or-else
+value-is xs s t k = tables-are (λ s t k. 0) xs s t k ∙ lem (latest_store xs s t k)
+  where
+    lem : (o : Option ℕ) → or-else o 0 ≡ elim o as (λ o. ℕ) [ Some n ↦ n | None ↦ 0 ]
+    lem None = refl
+    lem (Some n) = refl
+
 pub latest_stores : (w : World) → EveryGroup w → Latest w
-latest_stores w all = all-answers (λ s t k. 0) w.history (λ s. (all s).1.answers)
+latest_stores w all = record {
+  answers = λ xs d ys e. subst (λ (v : ℕ → ℕ → ℕ). answer_is d.1.op v d.1.answer) (fun_ext (λ t. fun_ext (λ k. value-is xs d.0 t k)))
+      (answer-at (λ s t k. 0) xs d ys (subst (λ (ds : List (ℕ × Completed)). AllAnswers (λ s t k. 0) ds) e (all-answers (λ s t k. 0) w.history (λ s. (all s).1.answers))));
+}
 
 pub pending_agrees : (w : World) → EveryGroup w → PendingAgrees w
 pending_agrees w all = record {

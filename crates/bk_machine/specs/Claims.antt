@@ -1,11 +1,10 @@
 -- What the table machine keeps: sole writers, latest answers, and pending groups.
-use Rattle.std.specs.Prelude.{ℕ, ◌≡◌, ◌≢◌, ◌+◌, ◌<◌, ◌≤◌, true, false, List, [], ◌∷◌, Option, Some, None}
+use Rattle.std.specs.Prelude.{ℕ, ◌≡◌, ◌≢◌, ◌+◌, ◌<◌, ◌≤◌, true, false, cond, eqb, ◌&&◌, List, [], ◌∷◌, ◌++◌, Option, Some, None}
 use Rattle.bk_base.specs.Places.{Shape}
-use Rattle.bk_base.specs.Tables.{put}
 use Rattle.bk_base.specs.States.{is_writable}
 use Rattle.bk_machine.specs.Entries.{Holds, times}
-use Rattle.bk_machine.specs.Words.{Completed, answer_is, after_op}
-use Rattle.bk_machine.specs.Messages.{ToCache, FillMessage, Response, InvAck, Block, answer_of}
+use Rattle.bk_machine.specs.Words.{Completed, answer_is}
+use Rattle.bk_machine.specs.Messages.{Op, Load, Store, UcLoad, UcStore, Evict, ToCache, FillMessage, Response, InvAck, Block, answer_of}
 use Rattle.bk_machine.specs.Transactions.{Transaction, Asked, ReadAsked}
 use Rattle.bk_machine.specs.World.{World}
 use Rattle.bk_machine.specs.Runs.{Command, Fill, step_of, has_step}
@@ -15,14 +14,30 @@ pub record Sole (w : World) : Type 0 where
   pub alone : (s t c v o i : ℕ) → Holds (w.held s c v) t → Holds (w.held s o i) t → c ≢ o → is_writable (w.held s c v).state ≡ false
   pub one_way : (s t c v i : ℕ) → Holds (w.held s c v) t → Holds (w.held s c i) t → v ≡ i
 
--- each answer of a history is right, where the words had these values (by group, tag, word) at first
-abbrev pub AllAnswers : (ℕ → ℕ → ℕ → ℕ) → List (ℕ × Completed) → Type 0
-AllAnswers v [] = Unit {0}
-AllAnswers v (d ∷ ds) = answer_is d.1.op (v d.0) d.1.answer × AllAnswers (put v d.0 (after_op d.1.op (v d.0))) ds
+-- the value that an operation of the history stores into a word (by group, tag, word), if it does
+abbrev pub stored_in : Op → ℕ → ℕ → Option ℕ
+stored_in (Load u j) t k = None
+stored_in (Store u j n) t k = cond (eqb t u && eqb k j) (Some n) None
+stored_in (UcLoad u j) t k = None
+stored_in (UcStore u j n) t k = cond (eqb t u && eqb k j) (Some n) None
+stored_in (Evict u) t k = None
 
--- The data-value rule over the one history: each load has answered the latest store of its word before it, or 0.
-abbrev pub Latest : World → Type 0
-Latest w = AllAnswers (λ s t k. 0) w.history
+abbrev pub stored_by : ℕ × Completed → ℕ → ℕ → ℕ → Option ℕ
+stored_by d s t k = cond (eqb s d.0) (stored_in d.1.op t k) None
+
+-- the latest Store or UcStore of a word in a list, the oldest first: that of the rest where the rest has one
+abbrev pub latest_store : List (ℕ × Completed) → ℕ → ℕ → ℕ → Option ℕ
+latest_store [] s t k = None
+latest_store (d ∷ ds) s t k = elim (latest_store ds s t k) as (λ o. Option ℕ) [ Some n ↦ Some n | None ↦ stored_by d s t k ]
+
+abbrev pub latest_value : List (ℕ × Completed) → ℕ → ℕ → ℕ → ℕ
+latest_value ds s t k = elim (latest_store ds s t k) as (λ o. ℕ) [ Some n ↦ n | None ↦ 0 ]
+
+-- The data-value rule over the one history: each load has answered the latest store of its word before it, or 0 where there is
+-- none; every other operation has answered 0.
+pub record Latest (w : World) : Type 0 where
+  pub answers : (before : List (ℕ × Completed)) (d : ℕ × Completed) (after : List (ℕ × Completed)) → w.history ≡ before ++ d ∷ after
+      → answer_is d.1.op (latest_value before d.0) d.1.answer
 
 -- A group is pending exactly where it has a taken request that isn't settled, and it has one such request at most.
 pub record PendingAgrees (w : World) : Type 0 where
