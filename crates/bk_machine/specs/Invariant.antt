@@ -12,7 +12,7 @@ use Rattle.bk_machine.specs.Phases.{Flush, NoFlush, FlushSent, FlushDone, Ack, N
 
 -- COPIES AND DIRECTORY
 
--- a directory's way covers a cache's
+-- a directory's entry d stands for a cache's entry h: it covers its state, and where it is valid it has its tag
 pub record Matches (d h : Entry) : Type 0 where
   pub covered : covers d.state h.state ≡ true
   pub same_tag : is_readable d.state ≡ true → d.tag ≡ h.tag
@@ -49,6 +49,7 @@ pub record Transferring (r o ow : ℕ) (b : InProgress) (y x : Coh) (h : ℕ →
   pub weaker : is_writable y ≡ false
   pub stays_dirty : (is_dirty y || is_dirty x) ≡ false → is_light (h o ow).state ≡ true
 
+-- what a grant on its way finds: a block (from memory or from a cache) lands, a wake's copy is there, a transfer as above
 abbrev pub FlightAims : Flight → ℕ → InProgress → (ℕ → ℕ → Entry) → Type 0
 FlightAims (ByBlock x ws) r b h = Landing r b x h
 FlightAims ByWake r b h = Holds (h r b.way) (op_tag b.op)
@@ -64,6 +65,7 @@ pub record Invalidating (r t : ℕ) (fl : Flush) (inv : ℕ → Ack) (d h : ℕ 
   pub clean : (c w : ℕ) → inv c ≡ InvSent → Holds (h c w) t → is_light (flush_effect fl c w (h c w)).state ≡ true
   pub behind : (c : ℕ) → inv c ≡ InvAcked → flush_command fl c ≡ []
 
+-- the same by phase: a flush and the invalidations of an open transaction, or its grant
 abbrev pub Standing : Phase → (ℕ → ℕ → Entry) → (ℕ → ℕ → Entry) → Type 0
 Standing Free d h = Unit {0}
 Standing (Open r b fl inv) d h = FlushAims fl h × Invalidating r (op_tag b.op) fl inv d h
@@ -81,7 +83,7 @@ pub record Copies (p : Phase) (d h : ℕ → ℕ → Entry) : Type 0 where
   pub standing : Standing p d h
 
 -- VALUES
--- no cache may write the tag; no cache has it
+-- no cache may write the tag
 abbrev pub NoWriter : (ℕ → ℕ → Entry) → ℕ → Type 0
 NoWriter h t = (c w : ℕ) → Holds (h c w) t → is_writable (h c w).state ≡ false
 
@@ -89,18 +91,22 @@ NoWriter h t = (c w : ℕ) → Holds (h c w) t → is_writable (h c w).state ≡
 abbrev pub AllLight : (ℕ → ℕ → Entry) → ℕ → Type 0
 AllLight h t = (c w : ℕ) → Holds (h c w) t → is_light (h c w).state ≡ true
 
+-- no cache has the tag
 abbrev pub NoCopy : (ℕ → ℕ → Entry) → ℕ → Type 0
 NoCopy h t = (c w : ℕ) → Holds (h c w) t → ⊥
 
+-- the same words
 abbrev pub Same : (ℕ → ℕ) → (ℕ → ℕ) → Type 0
 Same f g = (k : ℕ) → f k ≡ g k
 
+-- a Wb of the tag is on its way
 abbrev pub flush_away : Flush → ℕ → Bool
 flush_away NoFlush t = false
 flush_away (FlushSent o w u x) t = false
 flush_away (FlushDone o u None) t = false
 flush_away (FlushDone o u (Some ws)) t = eqb t u
 
+-- an uncached store into the word
 abbrev pub stores_at : Op → ℕ → ℕ → Bool
 stores_at (Load u j) t k = false
 stores_at (Store u j v) t k = false
@@ -108,6 +114,7 @@ stores_at (UcLoad u j) t k = false
 stores_at (UcStore u j v) t k = eqb t u && eqb k j
 stores_at (Evict u) t k = false
 
+-- a grant on its way has the word's latest value, or is to say that it was written: a Fill in M or O, a UcDone
 abbrev pub flight_away : Flight → InProgress → ℕ → ℕ → Bool
 flight_away (ByBlock x ws) b t k = false
 flight_away ByWake b t k = false
@@ -116,17 +123,20 @@ flight_away (ByFill o x ws) b t k = is_dirty x && eqb t (op_tag b.op)
 flight_away (ByWord v) b t k = false
 flight_away ByDone b t k = stores_at b.op t k
 
+-- at a phase, a message on its way has the word's latest value, and memory may be behind
 abbrev pub phase_away : Phase → ℕ → ℕ → Bool
 phase_away Free t k = false
 phase_away (Open r b fl inv) t k = flush_away fl t
 phase_away (Flying r b f) t k = flight_away f b t k
 phase_away (Settling r u) t k = false
 
+-- the engine keeps the block
 abbrev pub kept_away : WriteBack → ℕ → Bool
 kept_away Idle t = false
 kept_away Asked t = false
 kept_away (Kept b) t = eqb t b.tag
 
+-- a request to write the word
 abbrev pub request_at : Request → ℕ → ℕ → Bool
 request_at (Rd u w) t k = false
 request_at (Wr u w) t k = false
@@ -134,6 +144,7 @@ request_at (UcRd u j) t k = false
 request_at (UcWr u j v) t k = eqb t u && eqb k j
 request_at (EvictRequest u w) t k = false
 
+-- the transaction has the word's latest value: it keeps the block, or has written the word and not yet answered
 abbrev pub transaction_away : Option Transaction → ℕ → ℕ → Bool
 transaction_away None t k = false
 transaction_away (Some x) t k = kept_away x.write_back t || (x.written && not x.granted && request_at x.request t k)
@@ -144,12 +155,14 @@ pub record AtHome (p : Phase) (transaction : Option Transaction) (h : ℕ → �
   pub not_flying : phase_away p t k ≡ false
   pub not_kept : transaction_away transaction t k ≡ false
 
+-- a Wb on its way has the latest words, and no cache may write the block
 abbrev pub FlushValues : Flush → (ℕ → ℕ → Entry) → (ℕ → ℕ → ℕ) → Type 0
 FlushValues NoFlush h v = Unit {0}
 FlushValues (FlushSent o w u x) h v = Unit {0}
 FlushValues (FlushDone o u None) h v = Unit {0}
 FlushValues (FlushDone o u (Some ws)) h v = Same ws (v u) × NoWriter h u
 
+-- an uncached store that is about to complete: effective memory a has its value, and no cache has a copy
 abbrev pub StoredAt : Op → (ℕ → ℕ → Entry) → (ℕ → ℕ → ℕ) → Type 0
 StoredAt (Load u j) h a = Unit {0}
 StoredAt (Store u j v) h a = Unit {0}
@@ -157,6 +170,7 @@ StoredAt (UcLoad u j) h a = Unit {0}
 StoredAt (UcStore u j v) h a = (a u j ≡ v) × NoCopy h u
 StoredAt (Evict u) h a = Unit {0}
 
+-- a grant on its way has the latest words v; a word for a UcLoad is the latest, and no cache may write it
 abbrev pub FlightValues : Flight → InProgress → (ℕ → ℕ → Entry) → (ℕ → ℕ → ℕ) → (ℕ → ℕ → ℕ) → Type 0
 FlightValues (ByBlock x ws) b h v a = Same ws (v (op_tag b.op))
 FlightValues ByWake b h v a = Unit {0}
@@ -165,22 +179,26 @@ FlightValues (ByFill o x ws) b h v a = Same ws (v (op_tag b.op))
 FlightValues (ByWord n) b h v a = (n ≡ v (op_tag b.op) (op_word b.op)) × NoWriter h (op_tag b.op)
 FlightValues ByDone b h v a = StoredAt b.op h a
 
+-- the same by phase
 abbrev pub PhaseValues : Phase → (ℕ → ℕ → Entry) → (ℕ → ℕ → ℕ) → (ℕ → ℕ → ℕ) → Type 0
 PhaseValues Free h v a = Unit {0}
 PhaseValues (Open r b fl inv) h v a = FlushValues fl h v
 PhaseValues (Flying r b f) h v a = FlightValues f b h v a
 PhaseValues (Settling r u) h v a = Unit {0}
 
+-- a kept block has the latest words, and no cache may write it
 abbrev pub KeptValues : WriteBack → (ℕ → ℕ → Entry) → (ℕ → ℕ → ℕ) → Type 0
 KeptValues Idle h v = Unit {0}
 KeptValues Asked h v = Unit {0}
 KeptValues (Kept b) h v = Same b.words (v b.tag) × NoWriter h b.tag
 
+-- while a read is asked, all copies are in S or F; once it is got, its words are the latest too
 abbrev pub ReadValues : Reading → ℕ → (ℕ → ℕ → Entry) → (ℕ → ℕ → ℕ) → Type 0
 ReadValues NotRead t h v = Unit {0}
 ReadValues ReadAsked t h v = AllLight h t
 ReadValues (Got ws) t h v = Same ws (v t) × AllLight h t
 
+-- once the word was written, effective memory has it and no cache has a copy
 abbrev pub WrittenValues : Bool → Request → (ℕ → ℕ → Entry) → (ℕ → ℕ → ℕ) → Type 0
 WrittenValues false r h a = Unit {0}
 WrittenValues true (Rd t w) h a = ⊥
@@ -195,10 +213,13 @@ pub record TransactionValues (x : Transaction) (h : ℕ → ℕ → Entry) (v a 
   pub read : ReadValues x.reading (request_tag x.request) h v
   pub written : WrittenValues x.written x.request h a
 
+-- the same of a transaction, where there is one that isn't granted
 abbrev pub OpenValues : Option Transaction → (ℕ → ℕ → Entry) → (ℕ → ℕ → ℕ) → (ℕ → ℕ → ℕ) → Type 0
 OpenValues None h v a = Unit {0}
 OpenValues (Some x) h v a = cond x.granted (Unit {0}) (TransactionValues x h v a)
 
+-- The words of caches, memory and messages, against the latest v and effective memory a: each valid copy has the latest, memory has
+-- the latest where nothing else does, and what is on its way or held by the engine as above.
 pub record Values (p : Phase) (transaction : Option Transaction) (h : ℕ → ℕ → Entry) (words : ℕ → ℕ → ℕ → ℕ) (v a : ℕ → ℕ → ℕ) : Type 0 where
   pub copies : (t c w k : ℕ) → Holds (h c w) t → words c w k ≡ v t k
   pub memory : (t k : ℕ) → AtHome p transaction h t k → a t k ≡ v t k
@@ -206,6 +227,7 @@ pub record Values (p : Phase) (transaction : Option Transaction) (h : ℕ → �
   pub held : OpenValues transaction h v a
 
 -- THE MEMORY'S CHANNELS
+-- how many Reads are in the memory's channel
 abbrev pub reads : List ToMemory → ℕ
 reads [] = 0
 reads (Read t ∷ ms) = suc (reads ms)
@@ -219,24 +241,29 @@ ReadsFor t ws m (Read u ∷ ms) = (u ≡ t) × Same (m t) ws × ReadsFor t ws m 
 ReadsFor t ws m (Write u xs ∷ ms) = ReadsFor t ws (write_block m u xs) ms
 ReadsFor t ws m (WriteWord u k n ∷ ms) = ReadsFor t ws (write_word m u k n) ms
 
+-- each Block is of t, with these words
 abbrev pub BlocksFor : ℕ → (ℕ → ℕ) → List Block → Type 0
 BlocksFor t ws [] = Unit {0}
 BlocksFor t ws (b ∷ bs) = (b.tag ≡ t) × Same b.words ws × BlocksFor t ws bs
 
+-- an ungranted transaction has asked for a read
 abbrev pub is_reading : Option Transaction → Bool
 is_reading None = false
 is_reading (Some x) = not x.granted && is_asked x.reading
 
+-- the transaction's tag
 abbrev pub transaction_tag : Option Transaction → ℕ
 transaction_tag None = 0
 transaction_tag (Some x) = request_tag x.request
 
+-- One Read or Block is under way exactly while a read is asked; it is of the transaction's tag, and finds or has the latest words.
 pub record MemoryChannels (transaction : Option Transaction) (m v : ℕ → ℕ → ℕ) (ms : List ToMemory) (bs : List Block) : Type 0 where
   pub count : reads ms + length bs ≡ cond (is_reading transaction) 1 0
   pub to : ReadsFor (transaction_tag transaction) (v (transaction_tag transaction)) m ms
   pub back : BlocksFor (transaction_tag transaction) (v (transaction_tag transaction)) bs
 
 -- CONTROL
+-- the record agrees with the flush that is under way
 abbrev pub flush_state : Flush → WriteBack → Type 0
 flush_state NoFlush Idle = Unit {0}
 flush_state NoFlush Asked = ⊥
@@ -248,11 +275,13 @@ flush_state (FlushDone o t ws) Idle = ⊥
 flush_state (FlushDone o t ws) Asked = Unit {0}
 flush_state (FlushDone o t ws) (Kept b) = ⊥
 
+-- a flush of the tag is under way
 abbrev pub flush_on : Flush → ℕ → Bool
 flush_on NoFlush t = false
 flush_on (FlushSent o w u x) t = eqb t u
 flush_on (FlushDone o u ws) t = eqb t u
 
+-- how many acks of a cache are to come
 abbrev pub due : Ack → ℕ
 due NoInv = 0
 due InvSent = 1
@@ -276,10 +305,12 @@ DebtsApart None e = Unit {0}
 DebtsApart (Some d) None = Unit {0}
 DebtsApart (Some d) (Some e) = d.cache ≢ e.cache
 
+-- a transaction that is granted, if there is one, has no flush
 abbrev pub GrantedTransaction : Option Transaction → Type 0
 GrantedTransaction None = Unit {0}
 GrantedTransaction (Some x) = (x.granted ≡ true) × DebtsApart x.requester_debt x.owner_debt × x.write_back ≡ Idle
 
+-- the transaction by phase: open where the group's phase is, else none or granted
 abbrev pub TransactionAt : Phase → Option Transaction → Type 0
 TransactionAt Free transaction = GrantedTransaction transaction
 TransactionAt (Open r b fl inv) None = ⊥
@@ -294,6 +325,7 @@ Taker (Open r b fl inv) busy = busy r ≡ Some b
 Taker (Flying r b f) busy = busy r ≡ Some b
 Taker (Settling r t) busy = Unit {0}
 
+-- no request of the group is taken and unsettled
 abbrev pub is_free : Phase → Bool
 is_free Free = true
 is_free (Open r b fl inv) = false
@@ -308,7 +340,7 @@ Placed (UcLoad t k) w h = Unit {0}
 Placed (UcStore t k n) w h = Unit {0}
 Placed (Evict t) w h = Unit {0}
 
--- the state granted suits the operation, and an answer is of its kind
+-- the states that an operation may be granted
 abbrev pub suits : Op → Coh → Bool
 suits (Load t k) x = is_readable x
 suits (Store t k v) x = is_writable x
@@ -316,6 +348,7 @@ suits (UcLoad t k) x = false
 suits (UcStore t k v) x = false
 suits (Evict t) x = false
 
+-- the operations that StWake, UcBlk, and UcDone or Done complete
 abbrev pub is_store : Op → Bool
 is_store (Load t k) = false
 is_store (Store t k v) = true
@@ -337,6 +370,7 @@ ends_done (UcLoad t k) = false
 ends_done (UcStore t k v) = true
 ends_done (Evict t) = true
 
+-- the grant on its way suits the operation: the state granted, or the kind of the answer
 abbrev pub flight_kind : Flight → Op → Bool
 flight_kind (ByBlock x ws) op = suits op x
 flight_kind ByWake op = is_store op
@@ -351,6 +385,9 @@ phase_kind (Open r b fl inv) = true
 phase_kind (Flying r b f) = flight_kind f b.op
 phase_kind (Settling r t) = true
 
+-- A way group is good at a phase: its channels are those of the phase, the cache whose request is taken waits for it, the
+-- transaction, the pending mark and the counts agree with the phase, and copies, words and memory's channels are as above. Each
+-- answer of its history is right.
 pub record Good (p : Phase) (g : Group) : Type 0 where
   pub commands : (c : ℕ) → g.command c ≡ commands_of p c
   pub fills : (c o : ℕ) → g.fill c o ≡ fills_of p c o
@@ -405,6 +442,7 @@ pub record Recorded (k : Shape) (x : Transaction) (d : ℕ → ℕ → Entry) : 
   pub requester : (e : Debt) → x.requester_debt ≡ Some e → RequesterOwes x.cache x.request e
   pub owner : (e : Debt) → x.owner_debt ≡ Some e → OwnerOwes k x.cache x.request d e
 
+-- the same of the transaction, if there is one
 abbrev pub RecordOf : Shape → Option (ℕ × Transaction) → (ℕ → ℕ → ℕ → Entry) → Type 0
 RecordOf k None d = Unit {0}
 RecordOf k (Some x) d = Recorded k x.1 (d x.0)

@@ -40,16 +40,19 @@ pub data Phase : Type 0 where
 abbrev pub at_cache : {X : Type 0} → ℕ → ℕ → X → List X
 at_cache c o x = cond (eqb c o) (x ∷ []) []
 
+-- the StWb of a flush
 abbrev pub flush_command : Flush → ℕ → List ToCache
 flush_command NoFlush c = []
 flush_command (FlushSent o w t x) c = at_cache c o (StWb t x)
 flush_command (FlushDone o t ws) c = []
 
+-- the Inv of an invalidation
 abbrev pub inv_command : ℕ → Ack → List ToCache
 inv_command t NoInv = []
 inv_command t InvSent = Inv t ∷ []
 inv_command t InvAcked = []
 
+-- UcDone, or Done for an Evict
 abbrev pub uncached_done : Op → ToCache
 uncached_done (Load t k) = Done t
 uncached_done (Store t k v) = Done t
@@ -57,6 +60,7 @@ uncached_done (UcLoad t k) = Done t
 uncached_done (UcStore t k v) = UcDone t k
 uncached_done (Evict t) = Done t
 
+-- the command of a grant
 abbrev pub flight_command : Flight → ℕ → InProgress → ℕ → List ToCache
 flight_command (ByBlock x ws) r b c = at_cache c r (Blk (op_tag b.op) b.way x ws)
 flight_command ByWake r b c = at_cache c r (StWake (op_tag b.op) b.way)
@@ -72,6 +76,7 @@ commands_of (Open r b fl inv) c = flush_command fl c ++ inv_command (op_tag b.op
 commands_of (Flying r b f) c = flight_command f r b c
 commands_of (Settling r t) c = []
 
+-- the Fill of a transfer
 abbrev pub flight_fill : Flight → ℕ → InProgress → ℕ → ℕ → List FillMessage
 flight_fill (ByBlock x ws) r b to from = []
 flight_fill ByWake r b to from = []
@@ -80,17 +85,20 @@ flight_fill (ByFill o x ws) r b to from = cond (eqb to r && eqb from o) (record 
 flight_fill (ByWord v) r b to from = []
 flight_fill ByDone r b to from = []
 
+-- fills: that of the transfer
 abbrev pub fills_of : Phase → ℕ → ℕ → List FillMessage
 fills_of Free to from = []
 fills_of (Open r b fl inv) to from = []
 fills_of (Flying r b f) to from = flight_fill f r b to from
 fills_of (Settling r t) to from = []
 
+-- the answer to a flush
 abbrev pub flush_response : Flush → ℕ → List Response
 flush_response NoFlush c = []
 flush_response (FlushSent o w t x) c = []
 flush_response (FlushDone o t ws) c = at_cache c o (answer_of t ws)
 
+-- the answer to an invalidation
 abbrev pub inv_response : ℕ → Ack → List Response
 inv_response t NoInv = []
 inv_response t InvSent = []
@@ -118,16 +126,19 @@ asks false (Some b) = request_of b.op b.way ∷ []
 
 -- WHAT THE COMMANDS AND FILLS ON THEIR WAY WILL MAKE OF THE ENTRY OF CACHE c AT WAY w
 
+-- a StWb gives its entry its state
 abbrev pub flush_effect : Flush → ℕ → ℕ → Entry → Entry
 flush_effect NoFlush c w h = h
 flush_effect (FlushSent o ow t x) c w h = cond (eqb c o && eqb w ow) (with_state h x) h
 flush_effect (FlushDone o t ws) c w h = h
 
+-- an Inv wipes the block
 abbrev pub inv_effect : ℕ → Ack → Entry → Entry
 inv_effect t NoInv h = h
 inv_effect t InvSent h = wiped t h
 inv_effect t InvAcked h = h
 
+-- a grant makes the requester's entry the block, and a transfer lowers the owner's
 abbrev pub flight_effect : Flight → ℕ → InProgress → ℕ → ℕ → Entry → Entry
 flight_effect (ByBlock x ws) r b c w h = cond (eqb c r && eqb w b.way) (record { tag = op_tag b.op; state = x }) h
 flight_effect ByWake r b c w h = cond (eqb c r && eqb w b.way) (record { tag = op_tag b.op; state = M }) h
@@ -137,6 +148,7 @@ flight_effect (ByFill o x ws) r b c w h = cond (eqb c r && eqb w b.way) (record 
 flight_effect (ByWord v) r b c w h = h
 flight_effect ByDone r b c w h = h
 
+-- the entry once all of it has come
 abbrev pub expected : Phase → ℕ → ℕ → Entry → Entry
 expected Free c w h = h
 expected (Open r b fl inv) c w h = inv_effect (op_tag b.op) (inv c) (flush_effect fl c w h)
