@@ -55,7 +55,7 @@ one-if false = omega arith
 -- A list of numbers below n, each in it once at most, and not r, is shorter than n.
 
 -- how many times the numbers below n stand in a list
-abbrev counted : ℕ → List ℕ → ℕ
+abbrev pub counted : ℕ → List ℕ → ℕ
 counted zero xs = 0
 counted (suc n) xs = counted n xs + times n xs
 
@@ -73,7 +73,7 @@ counted-more (suc n) x xs = lem (counted n (x ∷ xs)) (counted n xs) (times n x
     lem : (a b d : ℕ) → a ≡ cond (ltb x n) 1 0 + b → a + (cond (eqb n x) 1 0 + d) ≡ cond (ltb x (suc n)) 1 0 + (b + d)
     lem a b d e = grind (arith, nat_tests)
 
-length-counted : (n : ℕ) (xs : List ℕ) → ((c : ℕ) → times c xs ≢ 0 → c < n) → length xs ≡ counted n xs
+pub length-counted : (n : ℕ) (xs : List ℕ) → ((c : ℕ) → times c xs ≢ 0 → c < n) → length xs ≡ counted n xs
 length-counted n [] f = sym (counted-none n)
 length-counted n (x ∷ xs) f = here (length-counted n xs (λ c m. f c (λ e. m (last (cond (eqb c x) 1 0) (times c xs) e)))) ∙ sym (counted-more n x xs)
   where

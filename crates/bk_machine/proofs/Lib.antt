@@ -1,6 +1,7 @@
 pub mod Allowed
 pub mod Copies
 pub mod Computed
+pub mod Fall
 pub mod Fewer
 pub mod Growing
 pub mod Inv

@@ -1,13 +1,16 @@
 -- What the engine's own reads of the directory say while it serves a transaction, and how much is under way for one.
-use Rattle.std.specs.Prelude.{ℕ, ◌≡◌, ◌≢◌, ◌+◌, ◌<◌, ◌≤◌, ◌⊎◌, true, false, Some, None, [], length}
+use Rattle.std.specs.Prelude.{not, eqb, Bool, List, ◌++◌, ◌&&◌, ℕ, ◌≡◌, ◌≢◌, ◌+◌, ◌<◌, ◌≤◌, ◌⊎◌, true, false, Some, None, [], length}
 use Rattle.bk_base.specs.Places.{Shape}
+use Rattle.bk_base.specs.declared.coh.Coh.{Coh}
 use Rattle.bk_base.specs.declared.coh.Coh.TheVariants.{I}
 use Rattle.bk_base.specs.States.{is_writable, is_owner_like}
-use Rattle.bk_machine.specs.Entries.{Holds, times}
-use Rattle.bk_machine.specs.Messages.{Rd, Wr, request_tag}
-use Rattle.bk_machine.specs.Transactions.{Debt, Transaction}
+use Rattle.bk_machine.specs.Entries.{Entry, Holds, times, with_state, wiped_all}
+use Rattle.bk_machine.specs.Messages.{Rd, Wr, Response, request_tag}
+use Rattle.bk_machine.specs.Transactions.{Debt, Transaction, remove_one}
+use Rattle.bk_machine.specs.Directory.{find, some, those}
 use Rattle.bk_machine.specs.World.{World, only}
-use Rattle.bk_machine.specs.Actions.{own_for, own_way_for, owner_for, others_for, OwnerAt}
+use Rattle.bk_machine.specs.Tables.{put2}
+use Rattle.bk_machine.specs.Actions.{Permitted, Invalidates, CollectsAck, own_for, own_way_for, owner_for, others_for, OwnerAt}
 use Rattle.bk_machine.specs.Invariant.{reads}
 
 -- The transaction isn't granted.
@@ -45,3 +48,24 @@ pub record UnderWay (k : Shape) (w : World) : Type 0 where
   pub memory_reads : (s : ℕ) → reads (only s w.memout) + length (only s w.memin) ≤ 1
   pub acks : (s : ℕ) (x : Transaction) → w.transaction ≡ Some (s, x) → x.granted ≡ false → length x.waiting < k.caches
   pub once : (s : ℕ) (x : Transaction) → w.transaction ≡ Some (s, x) → x.granted ≡ false → (c : ℕ) → times c x.waiting ≤ 1
+
+-- how many caches other than the requester have an entry of the tag in the directory
+abbrev pub holders : Shape → (ℕ → ℕ → Entry) → ℕ → ℕ → ℕ
+holders k d r t = length (those k.caches (λ c. not (eqb c r) && some (find k.ways (d c) t)))
+
+-- how many acks there may still be for a request: those to come, and one for each holder
+abbrev pub acks_left : Shape → (ℕ → ℕ → Entry) → ℕ → ℕ → List ℕ → ℕ
+acks_left k d r t waiting = holders k d r t + length waiting
+
+-- A bound on the acks of one operation: at its begin there may be fewer acks than caches. While it is served no invalidation and no
+-- flush raises what may still come, each ack that is collected lowers it by one, and no other action touches it.
+pub record AcksFall (k : Shape) (w : World) : Type 0 where
+  pub begin : (d : ℕ → ℕ → Entry) (r t : ℕ) → r < k.caches → acks_left k d r t [] < k.caches
+  pub invalidate : (s : ℕ) (x : Transaction) (f : Bool) (to : List ℕ) → Permitted k s (Invalidates f to x) w
+      → acks_left k (wiped_all to (request_tag x.request) (w.directory s)) x.cache (request_tag x.request) (x.waiting ++ to)
+      ≤ acks_left k (w.directory s) x.cache (request_tag x.request) x.waiting
+  pub flush : (s : ℕ) (x : Transaction) (o v u : ℕ) (y : Coh) → Holds (w.directory s o v) u
+      → acks_left k (put2 (w.directory s) o v (with_state (w.directory s o v) y)) x.cache (request_tag x.request) x.waiting
+      ≤ acks_left k (w.directory s) x.cache (request_tag x.request) x.waiting
+  pub collect : (s : ℕ) (x : Transaction) (c t : ℕ) (rest : List (ℕ × Response)) → Permitted k s (CollectsAck c t rest x) w
+      → length (remove_one c x.waiting) + 1 ≡ length x.waiting

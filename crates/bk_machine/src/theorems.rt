@@ -4,7 +4,7 @@ ghost use Rattle.bk_machine.specs.World.{World, empty};
 ghost use Rattle.bk_machine.specs.Runs.{Event, MayHappen, Listed, happens, run};
 ghost use Rattle.bk_machine.specs.Invariant.{Invariant};
 ghost use Rattle.bk_machine.specs.Claims.{Sole, Latest, PendingAgrees, NoForeign, Collectable, Quiet, Rested};
-ghost use Rattle.bk_machine.specs.Readings.{Readings, UnderWay};
+ghost use Rattle.bk_machine.specs.Readings.{Readings, UnderWay, AcksFall};
 ghost use Rattle.bk_machine.specs.Example.{shape, events, answers};
 ghost use Rattle.bk_msg.specs.declared.row.Row.{Row};
 ghost use Rattle.bk_machine.specs.Products.{Spoken, AtPlace};
@@ -36,10 +36,11 @@ pub fn traffic()
 {}
 
 /// What a state with the invariant shows of the directory and of the transaction: what the engine reads as own, owner and others
-/// while a request is served, and how much is under way for it, in messages and in acks to come.
+/// while a request is served, how much is under way for it, in messages and in acks to come, and how many acks it can have.
 pub fn engine_view()
     ensures readings { (k : Shape) (w : World) → Invariant k w → Readings k w }
     ensures under_way { (k : Shape) (w : World) → Invariant k w → UnderWay k w }
+    ensures acks_fall { (k : Shape) (w : World) → Invariant k w → AcksFall k w }
 {}
 
 /// The machine moves: a run of 64 events and permitted actions, and what its operations answer. A load, a store without a word to
