@@ -1,0 +1,17 @@
+pub mod Actions
+pub mod CacheTable
+pub mod Claims
+pub mod Directory
+pub mod Entries
+pub mod Example
+pub mod Invariant
+pub mod Messages
+pub mod Phases
+pub mod Products
+pub mod Readings
+pub mod Runs
+pub mod Steps
+pub mod Tables
+pub mod Transactions
+pub mod Words
+pub mod World

@@ -1,0 +1,122 @@
+-- Operations, and the messages of each network. Within a way group a block is its tag, and a word has a place in its block.
+use Rattle.std.specs.Prelude.{ℕ, Bool, true, false, Option, Some, None}
+use Rattle.bk_base.specs.declared.coh.Coh.{Coh}
+use Rattle.bk_base.specs.States.{is_readable, is_writable}
+
+pub data Op : Type 0 where
+  Load : (tag word : ℕ) → Op
+  Store : (tag word value : ℕ) → Op
+  UcLoad : (tag word : ℕ) → Op
+  UcStore : (tag word value : ℕ) → Op
+  Evict : (tag : ℕ) → Op
+
+-- from a cache to the engine
+pub data Request : Type 0 where
+  Rd : (tag way : ℕ) → Request
+  Wr : (tag way : ℕ) → Request
+  UcRd : (tag word : ℕ) → Request
+  UcWr : (tag word value : ℕ) → Request
+  EvictRequest : (tag way : ℕ) → Request
+
+-- from the engine to a cache: the command network
+pub data ToCache : Type 0 where
+  Inv : (tag : ℕ) → ToCache
+  StWb : (tag : ℕ) → (to : Coh) → ToCache
+  StTr : (tag : ℕ) → (to : Coh) → (peer peer_way : ℕ) → (peer_state : Coh) → ToCache
+  Blk : (tag way : ℕ) → (state : Coh) → (words : ℕ → ℕ) → ToCache
+  StWake : (tag way : ℕ) → ToCache
+  UcBlk : (tag word value : ℕ) → ToCache
+  UcDone : (tag word : ℕ) → ToCache
+  Done : (tag : ℕ) → ToCache
+
+-- from a cache to another: the fill network has one kind
+pub record FillMessage : Type 0 where
+  pub tag : ℕ
+  pub way : ℕ
+  pub state : Coh
+  pub words : ℕ → ℕ
+
+-- from a cache to the engine, in answer
+pub data Response : Type 0 where
+  InvAck : (tag : ℕ) → Response
+  CohAck : (tag : ℕ) → Response
+  Wb : (tag : ℕ) → (words : ℕ → ℕ) → Response
+  NullWb : (tag : ℕ) → Response
+
+-- from the engine to the memory
+pub data ToMemory : Type 0 where
+  Read : (tag : ℕ) → ToMemory
+  Write : (tag : ℕ) → (words : ℕ → ℕ) → ToMemory
+  WriteWord : (tag word value : ℕ) → ToMemory
+
+-- from the memory to the engine; also a block that the engine keeps
+pub record Block : Type 0 where
+  pub tag : ℕ
+  pub words : ℕ → ℕ
+
+-- the request that an operation makes, with its way
+abbrev pub request_of : Op → ℕ → Request
+request_of (Load t k) w = Rd t w
+request_of (Store t k v) w = Wr t w
+request_of (UcLoad t k) w = UcRd t k
+request_of (UcStore t k v) w = UcWr t k v
+request_of (Evict t) w = EvictRequest t w
+
+abbrev pub op_tag : Op → ℕ
+op_tag (Load t k) = t
+op_tag (Store t k v) = t
+op_tag (UcLoad t k) = t
+op_tag (UcStore t k v) = t
+op_tag (Evict t) = t
+
+-- the word of an operation, 0 where it has none
+abbrev pub op_word : Op → ℕ
+op_word (Load t k) = k
+op_word (Store t k v) = k
+op_word (UcLoad t k) = k
+op_word (UcStore t k v) = k
+op_word (Evict t) = 0
+
+abbrev pub request_tag : Request → ℕ
+request_tag (Rd t w) = t
+request_tag (Wr t w) = t
+request_tag (UcRd t k) = t
+request_tag (UcWr t k v) = t
+request_tag (EvictRequest t w) = t
+
+-- the way of a request; that of an uncached one is 0
+abbrev pub request_way : Request → ℕ
+request_way (Rd t w) = w
+request_way (Wr t w) = w
+request_way (UcRd t k) = 0
+request_way (UcWr t k v) = 0
+request_way (EvictRequest t w) = w
+
+-- Rd and Wr: the answer puts a block at the way
+abbrev pub asks_block : Request → Bool
+asks_block (Rd t w) = true
+asks_block (Wr t w) = true
+asks_block (UcRd t k) = false
+asks_block (UcWr t k v) = false
+asks_block (EvictRequest t w) = false
+
+-- Rd, Wr and UcRd: those for which the engine may read memory
+abbrev pub asks_read : Request → Bool
+asks_read (Rd t w) = true
+asks_read (Wr t w) = true
+asks_read (UcRd t k) = true
+asks_read (UcWr t k v) = false
+asks_read (EvictRequest t w) = false
+
+-- the states that a request may be granted: Rd any that a load may read, Wr any that a store may write
+abbrev pub request_suits : Request → Coh → Bool
+request_suits (Rd t w) x = is_readable x
+request_suits (Wr t w) x = is_writable x
+request_suits (UcRd t k) x = false
+request_suits (UcWr t k v) x = false
+request_suits (EvictRequest t w) x = false
+
+-- what a cache answers to StWb: Wb with the words of a dirty copy, else NullWb
+abbrev pub answer_of : ℕ → Option (ℕ → ℕ) → Response
+answer_of t None = NullWb t
+answer_of t (Some ws) = Wb t ws

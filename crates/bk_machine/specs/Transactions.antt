@@ -1,0 +1,96 @@
+-- The one transaction of the engine: the request that it serves, and how far it has come.
+use Rattle.std.specs.Prelude.{ℕ, Bool, true, false, cond, eqb, ◌&&◌, List, [], ◌∷◌, Option, Some, None}
+use Rattle.bk_machine.specs.Entries.{Entry}
+use Rattle.bk_machine.specs.Messages.{Op, Request, Block, request_of}
+
+-- an operation that a cache has begun, and the way that it has set apart: 0 for an uncached one
+pub record InProgress : Type 0 where
+  pub op : Op
+  pub way : ℕ
+
+-- a flush: none is asked for, one is sent and not yet answered, or its Wb has come and its block is kept
+pub data WriteBack : Type 0 where
+  Idle Asked : WriteBack
+  Kept : Block → WriteBack
+
+-- the read of memory: none was asked for, one is sent, or its words have come
+pub data Reading : Type 0 where
+  NotRead ReadAsked : Reading
+  Got : (words : ℕ → ℕ) → Reading
+
+-- an entry that the directory must still be given, at this cache and way
+pub record Debt : Type 0 where
+  pub cache : ℕ
+  pub way : ℕ
+  pub held : Entry
+
+-- The transaction record. `waiting` lists the caches whose InvAck is to come: its length is the engine's count of acks.
+-- A debt that is none is paid.
+pub record Transaction : Type 0 where
+  pub cache : ℕ
+  pub request : Request
+  pub granted : Bool
+  pub write_back : WriteBack
+  pub reading : Reading
+  pub written : Bool
+  pub waiting : List ℕ
+  pub requester_debt : Option Debt
+  pub owner_debt : Option Debt
+
+-- a transaction as it begins
+abbrev pub fresh : ℕ → Request → Transaction
+fresh c q =
+    record { cache = c; request = q; granted = false; write_back = Idle; reading = NotRead; written = false; waiting = []; requester_debt = None; owner_debt = None }
+
+-- a transaction that isn't granted, for an operation in progress: it has no debts
+abbrev pub open_transaction : ℕ → InProgress → WriteBack → Reading → Bool → List ℕ → Transaction
+open_transaction r b wb rd wr waiting = record {
+  cache = r;
+  request = request_of b.op b.way;
+  granted = false;
+  write_back = wb;
+  reading = rd;
+  written = wr;
+  waiting = waiting;
+  requester_debt = None;
+  owner_debt = None;
+}
+
+-- a granted one, with its debts
+abbrev pub granted_transaction : ℕ → InProgress → Reading → Bool → Option Debt → Option Debt → Transaction
+granted_transaction r b rd wr own owner = record {
+  cache = r;
+  request = request_of b.op b.way;
+  granted = true;
+  write_back = Idle;
+  reading = rd;
+  written = wr;
+  waiting = [];
+  requester_debt = own;
+  owner_debt = owner;
+}
+
+-- a list without the first place where a number stands
+abbrev pub remove_one : ℕ → List ℕ → List ℕ
+remove_one c [] = []
+remove_one c (x ∷ xs) = cond (eqb c x) xs (x ∷ remove_one c xs)
+
+-- what the answer to a flush leaves: a Wb's block is kept, after a NullWb there is none
+abbrev pub brought : ℕ → Option (ℕ → ℕ) → WriteBack
+brought t None = Idle
+brought t (Some ws) = Kept (record { tag = t; words = ws })
+
+abbrev pub is_asked : Reading → Bool
+is_asked NotRead = false
+is_asked ReadAsked = true
+is_asked (Got ws) = false
+
+-- The directory once the debts are paid. The invariant speaks of it: between a grant and its `pay` the bare directory is behind.
+
+abbrev pub pay : Option Debt → (ℕ → ℕ → Entry) → ℕ → ℕ → Entry
+pay None directory c w = directory c w
+pay (Some d) directory c w = cond (eqb c d.cache && eqb w d.way) d.held (directory c w)
+
+abbrev pub paid : Option Transaction → (ℕ → ℕ → Entry) → ℕ → ℕ → Entry
+paid None directory = directory
+paid (Some t) directory = pay t.requester_debt (pay t.owner_debt directory)

@@ -1,0 +1,52 @@
+-- The values of words, by tag and place: the latest by the history, and those of the memory.
+use Rattle.std.specs.Prelude.{ℕ, ◌≡◌, cond, eqb, ◌&&◌, List, [], ◌∷◌}
+use Rattle.bk_machine.specs.Messages.{Op, Load, Store, UcLoad, UcStore, Evict, ToMemory, Read, Write, WriteWord}
+
+-- an operation that has completed, with its answer: an entry of the history
+pub record Completed : Type 0 where
+  pub cache : ℕ
+  pub op : Op
+  pub answer : ℕ
+
+-- what the words are after an operation, and after a list of them: a Store or UcStore gives its word its value
+abbrev pub after_op : Op → (ℕ → ℕ → ℕ) → ℕ → ℕ → ℕ
+after_op (Load u j) v t k = v t k
+after_op (Store u j n) v t k = cond (eqb t u && eqb k j) n (v t k)
+after_op (UcLoad u j) v t k = v t k
+after_op (UcStore u j n) v t k = cond (eqb t u && eqb k j) n (v t k)
+after_op (Evict u) v t k = v t k
+
+abbrev pub values_after : (ℕ → ℕ → ℕ) → List Completed → ℕ → ℕ → ℕ
+values_after v [] = v
+values_after v (d ∷ ds) = values_after (after_op d.op v) ds
+
+-- the value of the latest store of each word in a history, 0 where there is none
+abbrev pub latest : List Completed → ℕ → ℕ → ℕ
+latest ds = values_after (λ t k. 0) ds
+
+-- the right answer of an operation, where the words have these values: a load's is its word, any other's 0
+abbrev pub answer_is : Op → (ℕ → ℕ → ℕ) → ℕ → Type 0
+answer_is (Load t k) v n = n ≡ v t k
+answer_is (Store t k x) v n = n ≡ 0
+answer_is (UcLoad t k) v n = n ≡ v t k
+answer_is (UcStore t k x) v n = n ≡ 0
+answer_is (Evict t) v n = n ≡ 0
+
+-- each answer of a history is right, where the words had the values v at first
+abbrev pub Answers : (ℕ → ℕ → ℕ) → List Completed → Type 0
+Answers v [] = Unit {0}
+Answers v (d ∷ ds) = answer_is d.op v d.answer × Answers (after_op d.op v) ds
+
+-- the memory after a block or a word was written
+abbrev pub write_block : (ℕ → ℕ → ℕ) → ℕ → (ℕ → ℕ) → ℕ → ℕ → ℕ
+write_block m u ws t k = cond (eqb t u) (ws k) (m t k)
+
+abbrev pub write_word : (ℕ → ℕ → ℕ) → ℕ → ℕ → ℕ → ℕ → ℕ → ℕ
+write_word m u j n t k = cond (eqb t u && eqb k j) n (m t k)
+
+-- effective memory: the memory once every write still in its channel was done
+abbrev pub effective : (ℕ → ℕ → ℕ) → List ToMemory → ℕ → ℕ → ℕ
+effective m [] = m
+effective m (Read t ∷ ms) = effective m ms
+effective m (Write t ws ∷ ms) = effective (write_block m t ws) ms
+effective m (WriteWord t k n ∷ ms) = effective (write_word m t k n) ms
