@@ -1,5 +1,5 @@
 //! `bedrock verify IMAGE` gives the verdict on an image of microcode; `bedrock replay serial IMAGE TRACE` runs
-//! one over a trace and prints the report. The exit code is the status of `bk_cmd`, and standard error tells of
+//! one over a trace and prints the report, `bedrock replay log IMAGE TRACE` the log before it. The exit code is the status of `bk_cmd`, and standard error tells of
 //! a fault.
 #![tactic(auto)]
 
