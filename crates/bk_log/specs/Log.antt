@@ -7,7 +7,7 @@ use Rattle.bk_base.specs.Places.{Shape}
 use Rattle.bk_isa.specs.declared.form.Form.{Form}
 use Rattle.bk_msg.specs.declared.row.Row.{Row}
 use Rattle.bk_msg.specs.Spelling.{spelling}
-use Rattle.bk_trace.specs.Spelling.{op_text}
+use Rattle.bk_trace.specs.Spelling.{operation_text}
 use Rattle.bk_engine.specs.declared.parts.Choice.{Choice}
 use Rattle.bk_system.specs.declared.event.Event.{Event}
 use Rattle.bk_system.specs.declared.event.Event.TheVariants.{Issue, Command, Fill, Memory, Engine}
@@ -17,7 +17,7 @@ use Rattle.bk_system.specs.Runs.{after}
 
 -- `I`, the operation as in a trace and its way; `C` and a cache; `F`, to whom and from whom; `M`; `E`, a class and a source
 abbrev pub event_text : Event → List ℕ
-event_text (Issue cache op way) = codes "I " ++ decimal cache ++ op_text op ++ codes " " ++ decimal way ++ codes "\n"
+event_text (Issue cache op way) = codes "I " ++ operation_text cache op ++ codes " " ++ decimal way ++ codes "\n"
 event_text (Command cache) = codes "C " ++ decimal cache ++ codes "\n"
 event_text (Fill to from) = codes "F " ++ decimal to ++ codes " " ++ decimal from ++ codes "\n"
 event_text Memory = codes "M\n"

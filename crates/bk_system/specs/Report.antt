@@ -1,18 +1,19 @@
 -- The report of a list of events: the history, counts of events and of messages, the caches' entries, and whether
 -- the trace was done.
-use Rattle.std.specs.Prelude.{◌≡◌, ℕ, ◌+◌, ◌↔◌, List, [], ◌∷◌, ◌++◌, Bool, false, Option, Some, None, flat_map, IsTrue, codes, if◌then◌else◌}
-use Rattle.std.specs.Fmt.{decimal, digits}
+use Rattle.std.specs.Prelude.{◌≡◌, ℕ, ◌+◌, ◌↔◌, List, [], ◌∷◌, ◌++◌, Bool, Option, Some, None, flat_map, IsTrue, codes, if◌then◌else◌}
+use Rattle.std.specs.Fmt.{decimal}
 use Rattle.bk_base.specs.Places.{Shape}
 use Rattle.bk_base.specs.declared.coh.Coh.{Coh}
 use Rattle.bk_base.specs.declared.coh.Coh.TheVariants as states
 use Rattle.bk_base.specs.declared.op.Op.{Op}
-use Rattle.bk_base.specs.declared.op.Op.TheVariants.{Load, Store, UcLoad, UcStore, Evict}
+use Rattle.bk_base.specs.declared.op.Op.TheVariants.{Load, UcLoad}
 use Rattle.bk_base.specs.declared.op.Done.{Done}
 use Rattle.bk_isa.specs.declared.form.Form.{Form}
 use Rattle.bk_msg.specs.declared.row.Row.{Row}
 use Rattle.bk_msg.specs.declared.row.Network.{Network}
 use Rattle.bk_msg.specs.declared.row.Network.TheVariants as networks
 use Rattle.bk_msg.specs.Networks.{network_of}
+use Rattle.bk_trace.specs.Spelling.{hexadecimal, operation_text}
 use Rattle.bk_system.specs.declared.event.Event.{Event}
 use Rattle.bk_system.specs.declared.event.Event.TheVariants as events
 use Rattle.bk_system.specs.declared.counts.Counts.{Counts}
@@ -59,19 +60,15 @@ counts_of k program events = counts_from k program (opening k) no_counts events
 
 -- The text. Numbers are decimal; addresses and tags are hexadecimal.
 
-abbrev pub hexadecimal : ℕ → List ℕ
-hexadecimal n = codes "0x" ++ digits 16 false n
+-- what a load has read
+abbrev pub answer_text : Op → ℕ → List ℕ
+answer_text (Load addr) answer = codes " = " ++ decimal answer
+answer_text (UcLoad addr) answer = codes " = " ++ decimal answer
+answer_text op answer = []
 
 -- a line of the history: the operation as in a trace, and what a load has read
-abbrev pub operation_text : Op → ℕ → List ℕ
-operation_text (Load addr) answer = codes " L " ++ hexadecimal addr ++ codes " = " ++ decimal answer
-operation_text (Store addr value) answer = codes " S " ++ hexadecimal addr ++ codes " " ++ decimal value
-operation_text (UcLoad addr) answer = codes " UL " ++ hexadecimal addr ++ codes " = " ++ decimal answer
-operation_text (UcStore addr value) answer = codes " US " ++ hexadecimal addr ++ codes " " ++ decimal value
-operation_text (Evict addr) answer = codes " EV " ++ hexadecimal addr
-
 abbrev pub done_text : Done → List ℕ
-done_text done = decimal done.cache ++ operation_text done.op done.answer ++ codes "\n"
+done_text done = operation_text done.cache done.op ++ answer_text done.op done.answer ++ codes "\n"
 
 abbrev pub events_text : Counts → List ℕ
 events_text n = codes "events issue " ++ decimal n.issue ++ codes " command " ++ decimal n.command ++ codes " fill " ++ decimal n.fill

@@ -1,25 +1,30 @@
 ghost use Rattle.std.specs.Prelude.{◌≡◌, ◌++◌, OnOk, IfOk, flat_map, string_bytes};
-ghost use Rattle.bk_system.specs.Report.{done_text, events_text, messages_text, end_text};
+ghost use Rattle.bk_system.specs.Report.{answer_text, done_text, events_text, messages_text, end_text};
 
 use crate::counts::Counts;
 use bk_base::{Done, Op};
+use bk_trace::push_operation;
 use std::alloc::{AllocError, Global};
 
 // Each function fails only where memory runs out; `out` may then hold a part of its text.
+
+/// Writes what a load has read, and nothing for another operation.
+fn push_answer(out: &mut String, op: &Op, answer: u64) -> Result<(), AllocError>
+    ensures { OnOk result (string_bytes out.new ≡ string_bytes out.old ++ answer_text op.now answer) }
+{
+    match op {
+        Op::Load(_) | Op::UcLoad(_) => write!(out, " = {answer}"),
+        _ => Ok(()),
+    }
+}
 
 /// Writes a line of the history.
 pub(crate) fn push_done(out: &mut String, done: &Done) -> Result<(), AllocError>
     ensures { OnOk result (string_bytes out.new ≡ string_bytes out.old ++ done_text done.now) }
 {
-    let cache = done.cache;
-    let answer = done.answer;
-    match done.op {
-        Op::Load(addr) => writeln!(out, "{cache} L 0x{:x} = {answer}", addr.value()),
-        Op::Store(addr, value) => writeln!(out, "{cache} S 0x{:x} {value}", addr.value()),
-        Op::UcLoad(addr) => writeln!(out, "{cache} UL 0x{:x} = {answer}", addr.value()),
-        Op::UcStore(addr, value) => writeln!(out, "{cache} US 0x{:x} {value}", addr.value()),
-        Op::Evict(addr) => writeln!(out, "{cache} EV 0x{:x}", addr.value()),
-    }
+    push_operation(out, done.cache, &done.op)?;
+    push_answer(out, &done.op, done.answer)?;
+    out.push_str("\n")
 }
 
 /// Writes the lines of the history, the oldest first.

@@ -18,8 +18,11 @@ op_text (UcStore address value) = codes " US " ++ hexadecimal address ++ codes "
 op_text (Evict address) = codes " EV " ++ hexadecimal address
 
 -- `CACHE OP ADDRESS`, and the value of a store
+abbrev pub operation_text : ℕ → Op → List ℕ
+operation_text cache op = decimal cache ++ op_text op
+
 abbrev pub line_text : ℕ × Op → List ℕ
-line_text line = decimal line.0 ++ op_text line.1 ++ codes "\n"
+line_text line = operation_text line.0 line.1 ++ codes "\n"
 
 abbrev pub config_text : Shape → List ℕ
 config_text s = codes "config " ++ decimal s.caches ++ codes " " ++ decimal s.sets ++ codes " " ++ decimal s.ways ++ codes "\n"

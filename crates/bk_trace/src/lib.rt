@@ -29,7 +29,7 @@ pub use draws::generate;
 pub use fault::{Kind, TraceFault};
 pub use read::read_trace;
 pub use trace::{OPERATION_LIMIT, Trace};
-pub use write::write_trace;
+pub use write::{push_operation, write_trace};
 
 #[cfg(test)]
 mod tests;

@@ -3,7 +3,7 @@ ghost use Rattle.std.specs.List.{flat_map};
 ghost use Rattle.bk_trace.specs.Traces.{IsTrace};
 ghost use Rattle.bk_trace.specs.Grammar.{trace_of};
 ghost use Rattle.bk_trace.specs.Reading.{trace_at};
-ghost use Rattle.bk_trace.specs.Spelling.{line_text, config_text, spelling};
+ghost use Rattle.bk_trace.specs.Spelling.{operation_text, line_text, config_text, spelling};
 
 use crate::trace::Trace;
 use bk_base::{Config, Op};
@@ -24,18 +24,26 @@ fn push_config(out: &mut String, config: Config) -> Result<(), AllocError>
     writeln!(out, "config {caches} {sets} {ways}")
 }
 
-/// Writes the line of an operation.
-fn push_line(out: &mut String, line: (u8, Op)) -> Result<(), AllocError>
-    ensures { OnOk result (string_bytes out.new ≡ string_bytes out.old ++ line_text line) }
+/// Writes `CACHE OP ADDRESS`, and the value of a store, as a trace has them, without a line's end. Fails only where memory
+/// runs out; `out` may then hold a part of it.
+pub fn push_operation(out: &mut String, cache: u8, op: &Op) -> Result<(), AllocError>
+    ensures { OnOk result (string_bytes out.new ≡ string_bytes out.old ++ operation_text cache op.now) }
 {
-    let (cache, op) = line;
-    match op {
-        Op::Load(address) => writeln!(out, "{cache} L 0x{:x}", address.value()),
-        Op::Store(address, value) => writeln!(out, "{cache} S 0x{:x} {value}", address.value()),
-        Op::UcLoad(address) => writeln!(out, "{cache} UL 0x{:x}", address.value()),
-        Op::UcStore(address, value) => writeln!(out, "{cache} US 0x{:x} {value}", address.value()),
-        Op::Evict(address) => writeln!(out, "{cache} EV 0x{:x}", address.value()),
+    match *op {
+        Op::Load(address) => write!(out, "{cache} L 0x{:x}", address.value()),
+        Op::Store(address, value) => write!(out, "{cache} S 0x{:x} {value}", address.value()),
+        Op::UcLoad(address) => write!(out, "{cache} UL 0x{:x}", address.value()),
+        Op::UcStore(address, value) => write!(out, "{cache} US 0x{:x} {value}", address.value()),
+        Op::Evict(address) => write!(out, "{cache} EV 0x{:x}", address.value()),
     }
+}
+
+/// Writes the line of an operation.
+fn push_line(out: &mut String, line: &(u8, Op)) -> Result<(), AllocError>
+    ensures { OnOk result (string_bytes out.new ≡ string_bytes out.old ++ line_text line.now) }
+{
+    push_operation(out, line.0, &line.1)?;
+    out.push_str("\n")
 }
 
 /// Writes the lines of operations.
@@ -43,7 +51,7 @@ fn push_lines(out: &mut String, lines: &[(u8, Op)]) -> Result<(), AllocError>
     ensures { OnOk result (string_bytes out.new ≡ string_bytes out.old ++ flat_map line_text lines.now) }
 {
     for line in lines {
-        push_line(out, *line)?;
+        push_line(out, line)?;
     }
     Ok(())
 }
