@@ -4,14 +4,14 @@
 ghost use Rattle.std.specs.Prelude.{◌≡◌};
 ghost use Rattle.bk_check.specs.Obligations.{obligation_16, settled, obligation_17, alone, bears, may_grant, obligation_18, may_pair, is_handover, may_transfer, obligation_19, obligation_20, may_pay, obligation_21, obligation_22, obligation_23};
 
-use bk_flow::{lacks, may, only_debt, only_down};
+use crate::waiting::implies;
+use bk_base::Coh;
 use bk_flow::values::{
     ACKS_ZERO, DOWN_PAID, DREQ_PAID, HEAD_NONE, KIND_EVICT, KIND_RD, KIND_RD_WR, KIND_UC_RD,
     KIND_UC_WR, KIND_WR, MEM_ASKED, MEM_GOT, MEM_WRITTEN, OTHERS_NO, OWN_I, OWN_S_F_O, OWNER_F,
     OWNER_NONE, OWNER_NONE_F, STAGE_CLOSING, VICTIM_LIGHT, WB_DIRTY, WB_IDLE, WHOSE_OWN,
 };
-use crate::waiting::implies;
-use bk_base::Coh;
+use bk_flow::{lacks, may, only_debt, only_down};
 use bk_isa::Form;
 use bk_know::{Sets, subset};
 

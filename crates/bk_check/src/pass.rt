@@ -5,9 +5,9 @@ ghost use Rattle.bk_know.specs.declared.sets.Sets.{Sets};
 ghost use Rattle.bk_image.specs.Images.{known};
 ghost use Rattle.bk_check.specs.Accepted.{or_else, fits_line, is_some_sets, is_wait, obligation_1, obligation_2_target, obligation_2, obligation_3_target, obligation_3, obligation_4_target, obligation_4, unmet, Accepted, IsFirstUnmet};
 
-use bk_flow::{fall, jump, start, target};
 use crate::obligations::{or_later, unmet_here};
 use crate::waiting::implies;
+use bk_flow::{fall, jump, start, target};
 use bk_image::Image;
 use bk_isa::Form;
 use bk_know::{Sets, within};

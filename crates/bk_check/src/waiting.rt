@@ -4,7 +4,7 @@
 ghost use Rattle.std.specs.Prelude.{◌≡◌};
 ghost use Rattle.bk_check.specs.Obligations.{implies, single_stage, single_head, obligation_5, awaits, obligation_6, obligation_7, obligation_8, marks, obligation_9, is_summed, may_branch, obligation_10, sends, is_send, may_read, obligation_11, may_flush_own, may_flush_victim, may_flush, obligation_12, obligation_13, obligation_14, obligation_15};
 
-use bk_flow::{lacks, may};
+use bk_base::Coh;
 use bk_flow::values::{
     ACKS_SOME, ACKS_ZERO, CLASS_MEM, CLASS_REQ, CLASS_RESP, CLASS_RESP_REQ, FIELD_GP, FIELD_KIND,
     FIELD_OTHERS, FIELD_OWN, FIELD_OWNER, FIELD_VICTIM, GP_FREE, GP_PENDING, HEAD_BLOCK,
@@ -14,7 +14,7 @@ use bk_flow::values::{
     SUMM_NO, SUMM_ROW, SUMM_SUM, VICTIM_HEAVY, WB_ASKED, WB_IDLE, WHOSE_OWN, WHOSE_OWNER,
     WITH_MARK, WITH_OWNER,
 };
-use bk_base::Coh;
+use bk_flow::{lacks, may};
 use bk_isa::Form;
 use bk_know::{Sets, subset};
 

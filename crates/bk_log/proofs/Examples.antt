@@ -1,11 +1,11 @@
 -- Lines of a log, computed.
-use Rattle.std.proofs.Common.{◌≡◌, [], ◌∷◌, Some, None, refl}
+use Rattle.std.proofs.Common.{◌≡◌, refl}
 use Rattle.std.specs.Prelude.{codes}
 use Rattle.std.specs.Fmt.{digits}
 use Rattle.hex.proofs.OnLiterals.{hex_on_literals}
 use Rattle.bk_base.specs.declared.op.Op.TheVariants.{UcStore, UcLoad}
 use Rattle.bk_msg.specs.declared.row.Row.TheVariants.{UcWr, UcRd}
-use Rattle.bk_system.specs.declared.event.Event.TheVariants.{Issue, Command, Fill, Memory, Engine}
+use Rattle.bk_system.specs.declared.event.Event.TheVariants.{Issue, Fill, Engine}
 use Rattle.bk_log.specs.Log.{event_text, message_text}
 
 record Lines : Type 0 where

@@ -1,11 +1,11 @@
 -- A log that is made one event at a time.
-use Rattle.std.proofs.Common.{◌≡◌, ℕ, suc, ◌+◌, ◌<◌, List, [], ◌∷◌, ◌++◌, Option, ap, sym, ◌∙◌, length, get_or, drop, drop-cons, add-one, append_assoc}
+use Rattle.std.proofs.Common.{◌≡◌, ℕ, suc, ◌+◌, ◌<◌, List, ◌∷◌, ◌++◌, ap, sym, ◌∙◌, length, get_or, drop, drop-cons, add-one, append_assoc}
 use Rattle.bk_base.specs.Places.{Shape}
 use Rattle.bk_isa.specs.declared.form.Form.{Form}
 use Rattle.bk_system.specs.declared.event.Event.{Event}
 use Rattle.bk_system.specs.declared.event.Stepped.{Stepped}
 use Rattle.bk_system.specs.State.{State}
-use Rattle.bk_system.specs.Events.{Happening, row}
+use Rattle.bk_system.specs.Events.{row}
 use Rattle.bk_system.specs.Runs.{after}
 use Rattle.bk_system.specs.Systems.{row_from}
 use Rattle.bk_log.specs.Log.{row_text, log_from}

@@ -8,7 +8,6 @@ use Rattle.bk_isa.specs.declared.form.Form.{Form}
 use Rattle.bk_msg.specs.declared.row.Row.{Row}
 use Rattle.bk_msg.specs.Spelling.{spelling}
 use Rattle.bk_trace.specs.Spelling.{operation_text}
-use Rattle.bk_engine.specs.declared.parts.Choice.{Choice}
 use Rattle.bk_system.specs.declared.event.Event.{Event}
 use Rattle.bk_system.specs.declared.event.Event.TheVariants.{Issue, Command, Fill, Memory, Engine}
 use Rattle.bk_system.specs.State.{State, opening}
