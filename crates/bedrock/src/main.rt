@@ -1,6 +1,5 @@
-//! `bedrock verify IMAGE` gives the verdict on an image of microcode; `bedrock replay serial IMAGE TRACE` runs
-//! one over a trace and prints the report, `bedrock replay log IMAGE TRACE` the log before it. The exit code is the status of `bk_cmd`, and standard error tells of
-//! a fault.
+//! The commands of `bedrock`: the verdict on an image of microcode, drawn traces, replays of an image over a trace
+//! (docs/COMMANDS.md). The exit code is the status of `bk_cmd`, and standard error tells of a fault.
 #![tactic(auto)]
 
 ghost use Rattle.std.specs.Prelude.{◌≡◌, ◌≢◌, IsTrue};

@@ -1,5 +1,5 @@
 -- The first bytes of two texts, one behind the other.
-use Rattle.std.proofs.Common.{◌≡◌, ℕ, zero, suc, ◌+◌, ◌<◌, List, [], ◌∷◌, ◌++◌, length, take, Option, Some, None, refl, ap, sym, ◌∙◌, append_assoc, arith, length-append}
+use Rattle.std.proofs.Common.{◌≡◌, ℕ, suc, ◌+◌, ◌<◌, List, [], ◌∷◌, ◌++◌, length, take, Option, Some, None, refl, ap, sym, ◌∙◌, append_assoc, arith, length-append}
 use Rattle.bk_outer.specs.Sink.{appended}
 
 take_both : (k n : ℕ) (first second : List ℕ) → k ≡ length first + n → take k (first ++ second) ≡ first ++ take n second

@@ -1,8 +1,11 @@
--- What a command of one file says of its bytes.
+-- What a command says that makes no run: of the bytes of a file, or of its words.
 use Rattle.std.specs.Prelude.{◌≡◌, ℕ, List, codes, Result, Ok, Err}
 use Rattle.bk_image.specs.Faults.{Bad}
 use Rattle.bk_image.specs.Images.{Parts}
 use Rattle.bk_image.specs.Reading.{image_at}
+use Rattle.bk_base.specs.Places.{Shape}
+use Rattle.bk_trace.specs.Generator.{generated}
+use Rattle.bk_trace.specs.Spelling.{spelling}
 use Rattle.bk_check.specs.Accepted.{Accepted, IsFirstUnmet}
 
 abbrev pub bad_at : ℕ → ℕ → Bad
@@ -32,3 +35,7 @@ VerdictOn (Err bad) (Fault at column kind) = (bad ≡ bad_at at kind) × (column
 -- what `verify` says of a file's bytes
 abbrev pub VerifySays : List ℕ → Answer → Type 0
 VerifySays bytes answer = VerdictOn (image_at bytes) answer
+
+-- what `gen` says: the canonical text of the drawn trace
+abbrev pub drawn_text : ℕ → Shape → ℕ → List ℕ
+drawn_text seed config operations = spelling (record { config = config; lines = generated config seed 1 operations })

@@ -6,14 +6,14 @@ use Rattle.bk_cmd.specs.Answers.{Due, Refuses}
 use Rattle.bk_cmd.specs.Inputs.{Files}
 use Rattle.bk_cmd.specs.Replays.{OfInputs, AreEvents, EndsShort, Reported, ReportedPart}
 use Rattle.bk_cmd.specs.Stops.{Says, IsBad}
-use Rattle.bk_cmd.specs.Words.{Command, Verify, Replay, command_of}
+use Rattle.bk_cmd.specs.Words.{Command, Replay, command_of}
 use Rattle.bk_cmd.specs.Writes.{Wrote, WrotePart}
 
 -- the words are a command, of which this holds
 abbrev pub OfCommand : List (String Global) → (Command → Type 0) → Type 0
 OfCommand words Holds = IsSomeAnd (command_of words) Holds
 
--- what the command says of its file is due, and something holds of that
+-- what the command says is due, and something holds of that
 pub record SaysText (files : Files) (command : Command) (Holds : List ℕ → Type 0) : Type 0 where
   pub text : List ℕ
   pub says : Says files command (Due text)
@@ -21,13 +21,13 @@ pub record SaysText (files : Files) (command : Command) (Holds : List ℕ → Ty
 
 -- status 0: the sink took all that is due
 abbrev pub EndsWhole : Files → Command → Outcome → Option (List ℕ) → Option (List ℕ) → Type 0
-EndsWhole files (Verify image) o before after = SaysText files (Verify image) (λ text. Wrote text o before after)
 EndsWhole files (Replay output image trace) o before after = OfInputs files image trace (λ i t. Reported output i t o before after)
+EndsWhole files command o before after = SaysText files command (λ text. Wrote text o before after)
 
 -- status 7, and 1 where something was written: the sink took the first bytes of what is due, as many as are told, and no more
 abbrev pub EndsInPart : Files → Command → Outcome → Option (List ℕ) → Option (List ℕ) → Type 0
-EndsInPart files (Verify image) o before after = SaysText files (Verify image) (λ text. WrotePart text o before after)
 EndsInPart files (Replay output image trace) o before after = OfInputs files image trace (λ i t. ReportedPart output i t o before after)
+EndsInPart files command o before after = SaysText files command (λ text. WrotePart text o before after)
 
 -- status 3: the refusal is the verdict on the file
 abbrev pub EndsRefused : Files → Command → Outcome → Type 0
@@ -39,10 +39,10 @@ EndsBad files command o = IsBad files command o.file o.at o.column o.kind
 
 -- status 9: a run that is not complete
 abbrev pub EndsSpent : Files → Command → Outcome → Type 0
-EndsSpent files (Verify image) o = ⊥
 EndsSpent files (Replay output image trace) o = OfInputs files image trace (λ i t. EndsShort i t o.events.items)
+EndsSpent files command o = ⊥
 
 -- events are told only of a run, and then all of them
 abbrev pub TellsEvents : Files → Command → Outcome → Type 0
-TellsEvents files (Verify image) o = o.events.items ≡ []
 TellsEvents files (Replay output image trace) o = (o.events.items ≡ []) ⊎ OfInputs files image trace (λ i t. AreEvents i t o.events.items)
+TellsEvents files command o = o.events.items ≡ []

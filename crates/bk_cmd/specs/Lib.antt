@@ -1,4 +1,5 @@
 pub mod Unbuilt
+pub mod Numbers
 pub mod Words
 pub mod Told
 pub mod Outcomes

@@ -1,5 +1,5 @@
 -- How a replay ends, once its files are read.
-use Rattle.std.specs.Prelude.{◌≡◌, ℕ, ◌⊎◌, List, [], ◌++◌, length, Bool, true, false, Option, Some, Ok}
+use Rattle.std.specs.Prelude.{◌≡◌, ℕ, ◌⊎◌, List, [], ◌++◌, length, Bool, true, false, Option, Ok}
 use Rattle.bk_image.specs.Images as images
 use Rattle.bk_trace.specs.Traces as traces
 use Rattle.bk_system.specs.declared.event.Event.{Event}

@@ -1,14 +1,14 @@
 -- What each reason to stop says. The two types say that the shelf's count of faults rose, and its count of misses.
-use Rattle.std.specs.Prelude.{◌≡◌, ℕ, ◌<◌, ◌⊎◌, List, length, Option, Some, None, Result, Ok, Err, IfSome, IsSomeAnd}
+use Rattle.std.specs.Prelude.{◌≡◌, ℕ, ◌<◌, ◌⊎◌, List, length, None, Result, Ok, Err, IfSome, IsSomeAnd}
 use Rattle.std.specs.Global.{Vec}
 use Rattle.bk_outer.specs.declared.shelf.TheConstants.{FILE_LIMIT}
 use Rattle.bk_image.specs.Faults as faults
 use Rattle.bk_image.specs.Images as images
 use Rattle.bk_trace.specs.Faults as trace_faults
 use Rattle.bk_trace.specs.Traces as traces
-use Rattle.bk_cmd.specs.Answers.{Answer, Due, Refuses, Fault, bad_at, VerifySays}
+use Rattle.bk_cmd.specs.Answers.{Answer, Due, Refuses, Fault, bad_at, VerifySays, drawn_text}
 use Rattle.bk_cmd.specs.Inputs.{Files, FileHolds, ImageIs, TraceIs, AfterImage}
-use Rattle.bk_cmd.specs.Words.{Command, Verify, Replay, file_of}
+use Rattle.bk_cmd.specs.Words.{Command, Verify, Generate, Replay, file_of}
 use Rattle.bk_cmd.specs.declared.outcome.Unread as unread
 use Rattle.bk_cmd.specs.declared.outcome.Unread.TheVariants.{Absent, Failed, TooLong}
 use Rattle.bk_cmd.specs.declared.outcome.Stop.{Stop}
@@ -75,11 +75,13 @@ IsTraceStop files name failed missed _ = ⊥
 -- this file is the command's, and its turn comes: a trace is read after an image that is fit to run
 abbrev pub Reaches : Files → Command → ℕ → Type 0
 Reaches files (Verify image) file = file ≡ 1
+Reaches files (Generate seed config operations) file = ⊥
 Reaches files (Replay output image trace) file = (file ≡ 1) ⊎ ((file ≡ 2) × AfterImage files image (Unit {0}))
 
--- of the bytes of the command's one file it says so
+-- what a command says that makes no run: of the bytes of its one file, or of its words alone
 abbrev pub Says : Files → Command → Answer → Type 0
 Says files (Verify image) answer = FileHolds files image (λ bytes. VerifySays bytes answer)
+Says files (Generate seed config operations) answer = answer ≡ Due (drawn_text seed config operations)
 Says files (Replay output image trace) answer = ⊥
 
 -- the first fault of the image; or that of the trace, after an image that is fit to run
@@ -91,6 +93,7 @@ IsBadInput files image trace file at column kind =
 -- the file of this number has this fault
 abbrev pub IsBad : Files → Command → ℕ → ℕ → ℕ → ℕ → Type 0
 IsBad files (Verify image) file at column kind = (file ≡ 1) × Says files (Verify image) (Fault at column kind)
+IsBad files (Generate seed config operations) file at column kind = ⊥
 IsBad files (Replay output image trace) file at column kind = IsBadInput files image trace file at column kind
 
 -- the file of this number gave no bytes

@@ -1,8 +1,15 @@
 -- A command as the code has it.
+use Rattle.std.specs.Prelude.{◌≤◌}
 use Rattle.bk_cmd.specs.declared.words.Command as code
 use Rattle.bk_cmd.specs.declared.words.Command.TheVariants as variants
-use Rattle.bk_cmd.specs.Words.{Command, Verify, Replay}
+use Rattle.bk_cmd.specs.Words.{Command, Verify, Generate, Replay}
 
 abbrev pub told : code.Command → Command
 told (variants.Verify image) = Verify image.now
+told (variants.Generate seed config operations) = Generate seed config operations
 told (variants.Replay output image trace) = Replay output image.now trace.now
+
+-- a trace that is drawn has at most 10,000 operations
+abbrev pub HasFewOperations : code.Command → Type 0
+HasFewOperations (variants.Generate seed config operations) = operations ≤ 10000
+HasFewOperations _ = Unit {0}

@@ -1,7 +1,9 @@
 -- Command lines.
-use Rattle.std.specs.Prelude.{ℕ, List, [], ◌∷◌, ◌==◌, Option, Some, None, String, string_bytes, codes, if◌then◌else◌}
+use Rattle.std.specs.Prelude.{ℕ, ◌^◌, List, [], ◌∷◌, ◌==◌, Option, Some, None, String, string_bytes, codes, if◌then◌else◌}
 use Rattle.std.specs.Str.{bytes_eq}
 use Rattle.std.specs.Global.{Global}
+use Rattle.bk_base.specs.Places.{Shape}
+use Rattle.bk_cmd.specs.Numbers.{below, config_in}
 use Rattle.bk_cmd.specs.declared.words.Output.{Output}
 use Rattle.bk_cmd.specs.declared.words.Output.TheVariants.{Report, LogAndReport}
 
@@ -9,6 +11,8 @@ use Rattle.bk_cmd.specs.declared.words.Output.TheVariants.{Report, LogAndReport}
 pub data Command : Type 0 where
   -- the verdict on an image
   Verify : (image : List ℕ) → Command
+  -- a trace of so many operations that is drawn from a seed
+  Generate : (seed : ℕ) (config : Shape) (operations : ℕ) → Command
   -- the greedy run of an image over a trace, and what is written of it
   Replay : (output : Output) (image trace : List ℕ) → Command
 
@@ -16,23 +20,44 @@ pub data Command : Type 0 where
 abbrev pub output_of : List ℕ → Option Output
 output_of mode = if bytes_eq mode (codes "serial") then Some Report else if bytes_eq mode (codes "log") then Some LogAndReport else None
 
-abbrev pub replay_of : List ℕ → List ℕ → Option Output → Option Command
-replay_of image trace None = None
-replay_of image trace (Some output) = Some (Replay output image trace)
+abbrev pub replay_in : Option Output → List ℕ → List ℕ → Option Command
+replay_in None image trace = None
+replay_in (Some output) image trace = Some (Replay output image trace)
 
--- the command of `verify IMAGE`, `replay serial IMAGE TRACE` or `replay log IMAGE TRACE`; other words are none
+-- a seed below 2^32, a configuration in the profile, at most 10,000 operations
+abbrev pub generate_with : Option ℕ → Option Shape → Option ℕ → Option Command
+generate_with (Some seed) (Some config) (Some operations) = Some (Generate seed config operations)
+generate_with _ _ _ = None
+
+abbrev pub generate_in : List ℕ → List ℕ → List ℕ → List ℕ → List ℕ → Option Command
+generate_in seed caches sets ways operations = generate_with (below (2 ^ 32) seed) (config_in caches sets ways) (below 10001 operations)
+
+-- the words behind `verify`, `gen` and `replay`
+
+abbrev pub verify_of : List (String Global) → Option Command
+verify_of (image ∷ []) = Some (Verify (string_bytes image))
+verify_of _ = None
+
+abbrev pub generate_of : List (String Global) → Option Command
+generate_of (seed ∷ caches ∷ sets ∷ ways ∷ operations ∷ []) = generate_in (string_bytes seed) (string_bytes caches) (string_bytes sets) (string_bytes ways) (string_bytes operations)
+generate_of _ = None
+
+abbrev pub replay_of : List (String Global) → Option Command
+replay_of (mode ∷ image ∷ trace ∷ []) = replay_in (output_of (string_bytes mode)) (string_bytes image) (string_bytes trace)
+replay_of _ = None
+
+-- the command of `verify IMAGE`, `gen SEED CACHES SETS WAYS OPS`, `replay serial IMAGE TRACE` or `replay log IMAGE TRACE`; other
+-- words are none
 abbrev pub command_of : List (String Global) → Option Command
-command_of (command ∷ image ∷ []) =
-    if bytes_eq (string_bytes command) (codes "verify")
-    then Some (Verify (string_bytes image))
+command_of [] = None
+command_of (command ∷ words) =
+    if bytes_eq (string_bytes command) (codes "verify") then verify_of words
+    else if bytes_eq (string_bytes command) (codes "gen") then generate_of words
+    else if bytes_eq (string_bytes command) (codes "replay") then replay_of words
     else None
-command_of (command ∷ mode ∷ image ∷ trace ∷ []) =
-    if bytes_eq (string_bytes command) (codes "replay")
-    then replay_of (string_bytes image) (string_bytes trace) (output_of (string_bytes mode))
-    else None
-command_of _ = None
 
 -- the name of the first or the second file that a command names
 abbrev pub file_of : Command → ℕ → Option (List ℕ)
 file_of (Verify image) file = if file == 1 then Some image else None
+file_of (Generate seed config operations) file = None
 file_of (Replay output image trace) file = if file == 1 then Some image else if file == 2 then Some trace else None

@@ -1,16 +1,18 @@
-//! Commands of one file: what they say of its bytes.
+//! Commands that make no run: what they say of a file's bytes, or of their words.
 
 ghost use Rattle.std.specs.Prelude.{◌≡◌, ◌≤◌, IfOk, IfErr};
 ghost use Rattle.bk_outer.specs.Counts.{Rose};
-ghost use Rattle.bk_cmd.specs.Answers.{Due, VerifySays};
+ghost use Rattle.bk_cmd.specs.Answers.{Due, VerifySays, drawn_text};
 ghost use Rattle.bk_cmd.specs.Stops.{GivesAnswer, Says, IsStop};
 ghost use Rattle.bk_cmd.specs.Words.{Verify};
 
 use crate::inputs::{bytes_of, image_in};
 use crate::outcome::Stop;
+use bk_base::Config;
 use bk_check::check;
 use bk_outer::Shelf;
-use std::alloc::Global;
+use bk_trace::{generate, write_trace};
+use std::alloc::{AllocError, Global};
 
 /// What is said of an accepted image.
 const ACCEPTED: &str = "accepted\n";
@@ -45,4 +47,18 @@ pub(crate) fn verify<H: Shelf>(alloc: Global, shelf: &mut H, image: &str) -> Res
         Ok(bytes) => verdict_on(alloc, &bytes),
         Err(stop) => Err(stop),
     }
+}
+
+/// What `gen SEED CACHES SETS WAYS OPS` writes.
+pub(crate) fn drawn(
+    alloc: Global,
+    seed: u32,
+    config: Config,
+    operations: u32,
+) -> Result<Vec<u8>, AllocError>
+    requires { operations ≤ 10000 }
+    ensures { IfOk result (λ text. text.items ≡ drawn_text seed config operations) }
+{
+    let trace = generate(alloc, seed, config, operations)?;
+    write_trace(alloc, &trace)
 }

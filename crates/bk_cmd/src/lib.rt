@@ -4,6 +4,7 @@
 mod answers;
 mod fault_texts;
 mod inputs;
+mod numbers;
 mod outcome;
 mod replay;
 mod run;

@@ -8,7 +8,7 @@ ghost use Rattle.bk_cmd.specs.Stops.{IsMissing};
 ghost use Rattle.bk_cmd.specs.Words.{command_of};
 ghost use Rattle.bk_cmd.specs.declared.outcome.Unread.TheVariants as unread;
 
-use crate::answers::verify;
+use crate::answers::{drawn, verify};
 use crate::inputs::inputs_of;
 use crate::outcome::{
     ABSENT, MALFORMED, MEMORY, OK, Outcome, READ_FAULT, REFUSED, SPENT, Stop, TOO_LONG, USAGE,
@@ -23,6 +23,7 @@ use std::alloc::Global;
 /// Does what the words ask for, with the files of the shelf, and writes to the sink what is due:
 ///
 /// - `verify IMAGE`: `accepted` and a line's end, where the image is accepted (`docs/OBLIGATIONS.md`);
+/// - `gen SEED CACHES SETS WAYS OPS`: the canonical text of the trace that is drawn from the seed (`docs/FILES.md`);
 /// - `replay serial IMAGE TRACE`: the report of the greedy run of the image over the trace;
 /// - `replay log IMAGE TRACE`: the log of that run, and then its report.
 ///
@@ -104,6 +105,14 @@ pub fn run_plain<H: Shelf, K: Sink>(
         Command::Verify { image } => match verify(alloc, shelf, image) {
             Ok(text) => deliver(sink, &text, &[], Vec::new(alloc)),
             Err(stop) => stopped(alloc, stop),
+        },
+        Command::Generate {
+            seed,
+            config,
+            operations,
+        } => match drawn(alloc, seed, config, operations) {
+            Ok(text) => deliver(sink, &text, &[], Vec::new(alloc)),
+            Err(_) => stopped(alloc, Stop::Memory),
         },
         Command::Replay {
             output,

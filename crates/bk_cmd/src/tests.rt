@@ -181,6 +181,44 @@ fn a_write_that_fails(rt: HostRuntime) -> Result<(), Fail> {
 }
 
 #[test]
+fn a_drawn_trace(rt: HostRuntime) -> Result<(), Fail> {
+    let alloc = rt.alloc();
+    let mut shelf = shelf(alloc, &NOP, "", Vec::new(alloc))?;
+    let mut sink = sink(alloc);
+    let words = words_of(alloc, &["gen", "7", "2", "4", "2", "1"])?;
+    let outcome = run_plain(alloc, &words, &mut shelf, &mut sink);
+    assert_eq!(rt; numbers(&outcome), [OK as u64, 0, 0, 0, 0, 25]);
+    assert!(rt; sink.bytes() == "config 2 4 2\n1 S 0x5e8 1\n".as_bytes());
+    Ok(())
+}
+
+#[test]
+fn words_that_are_no_command(rt: HostRuntime) -> Result<(), Fail> {
+    let alloc = rt.alloc();
+    let lines = [
+        &["verify"][..],
+        &["verify", "a.bk", "b.trace"][..],
+        &["replay", "a.bk", "b.trace"][..],
+        &["replay", "threads", "a.bk", "b.trace"][..],
+        &["gen", "4294967296", "2", "4", "2", "1"][..],
+        &["gen", "00000000007", "2", "4", "2", "1"][..],
+        &["gen", "0x7", "2", "4", "2", "1"][..],
+        &["gen", "7", "2", "3", "2", "1"][..],
+        &["gen", "7", "9", "4", "2", "1"][..],
+        &["gen", "7", "258", "4", "2", "1"][..],
+        &["gen", "7", "2", "4", "2", "10001"][..],
+        &["gen", "7", "2", "4", "2", ""][..],
+    ];
+    for line in lines {
+        let mut shelf = shelf(alloc, &NOP, "", Vec::new(alloc))?;
+        let mut sink = sink(alloc);
+        let outcome = run_plain(alloc, &words_of(alloc, line)?, &mut shelf, &mut sink);
+        assert_eq!(rt; numbers(&outcome), [USAGE as u64, 0, 0, 0, 0, 0]);
+    }
+    Ok(())
+}
+
+#[test]
 fn no_words(rt: HostRuntime) -> Result<(), Fail> {
     let alloc = rt.alloc();
     let mut shelf = shelf(alloc, &UNCACHED, TWO_OPERATIONS, Vec::new(alloc))?;

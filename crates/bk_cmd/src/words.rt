@@ -1,9 +1,18 @@
-ghost use Rattle.std.specs.Prelude.{◌≡◌, Some, None, MatchOption};
-ghost use Rattle.bk_cmd.specs.Words.{output_of, command_of};
-ghost use Rattle.bk_cmd.specs.Told.{told};
+ghost use Rattle.std.specs.Prelude.{◌≡◌, Some, None, MatchOption, IfSome};
+ghost use Rattle.bk_cmd.specs.Words.{output_of, generate_in, verify_of, generate_of, replay_of, command_of};
+ghost use Rattle.bk_cmd.specs.Told.{told, HasFewOperations};
+
+use crate::numbers::{below, config_in};
+use bk_base::Config;
 
 /// The first word of a verdict.
 const VERIFY: &str = "verify";
+/// The first word of a drawn trace.
+const GENERATE: &str = "gen";
+/// One more than the greatest seed.
+const SEED_LIMIT: u64 = 1 << 32;
+/// One more than the most operations of a trace.
+const OPERATIONS_LIMIT: u64 = 10_001;
 /// The first word of a replay.
 const REPLAY: &str = "replay";
 /// The second word of a replay that writes the report.
@@ -27,6 +36,12 @@ pub(crate) enum Command<'a> {
     Verify {
         image: &'a str,
     },
+    /// `gen SEED CACHES SETS WAYS OPS`: a trace of so many operations, at most 10,000, that is drawn from a seed.
+    Generate {
+        seed: u32,
+        config: Config,
+        operations: u32,
+    },
     /// `replay serial IMAGE TRACE` and `replay log IMAGE TRACE`: the greedy run of an image over a trace.
     Replay {
         output: Output,
@@ -48,33 +63,96 @@ fn output_of(mode: &str) -> Option<Output>
     }
 }
 
-/// The command of the words, or none where they are no command.
-pub(crate) fn command_of(words: &[String]) -> Option<Command<'_>>
-    ensures { MatchOption result (command_of words.now ≡ None) (λ command. command_of words.now ≡ Some (told command)) }
+/// The drawing of these words, where each is a number in its range.
+fn generate_in<'a>(
+    seed: &str,
+    caches: &str,
+    sets: &str,
+    ways: &str,
+    operations: &str,
+) -> Option<Command<'a>>
+    ensures value { MatchOption result
+        (generate_in seed.now caches.now sets.now ways.now operations.now ≡ None)
+        (λ command. generate_in seed.now caches.now sets.now ways.now operations.now ≡ Some (told command)) }
+    ensures few { IfSome result HasFewOperations }
 {
-    match words {
-        [command, image] => {
-            if command.as_str() == VERIFY {
-                Some(Command::Verify {
-                    image: image.as_str(),
-                })
-            } else {
-                None
-            }
-        }
-        [command, mode, image, trace] => {
-            if command.as_str() != REPLAY {
-                return None;
-            }
-            match output_of(mode.as_str()) {
-                Some(output) => Some(Command::Replay {
-                    output,
-                    image: image.as_str(),
-                    trace: trace.as_str(),
-                }),
-                None => None,
-            }
-        }
+    let seed = below(SEED_LIMIT, seed);
+    let config = config_in(caches, sets, ways);
+    let operations = below(OPERATIONS_LIMIT, operations);
+    match (seed, config, operations) {
+        (Some(seed), Some(config), Some(operations)) => Some(Command::Generate {
+            seed: seed as u32,
+            config,
+            operations: operations as u32,
+        }),
         _ => None,
     }
+}
+
+/// The words behind `verify`: an image.
+fn verify_of(words: &[String]) -> Option<Command<'_>>
+    ensures value { MatchOption result (verify_of words.now ≡ None) (λ command. verify_of words.now ≡ Some (told command)) }
+    ensures few { IfSome result HasFewOperations }
+{
+    match words {
+        [image] => Some(Command::Verify {
+            image: image.as_str(),
+        }),
+        _ => None,
+    }
+}
+
+/// The words behind `gen`: a seed, a configuration and a number of operations.
+fn generate_of(words: &[String]) -> Option<Command<'_>>
+    ensures value { MatchOption result (generate_of words.now ≡ None) (λ command. generate_of words.now ≡ Some (told command)) }
+    ensures few { IfSome result HasFewOperations }
+{
+    match words {
+        [seed, caches, sets, ways, operations] => generate_in(
+            seed.as_str(),
+            caches.as_str(),
+            sets.as_str(),
+            ways.as_str(),
+            operations.as_str(),
+        ),
+        _ => None,
+    }
+}
+
+/// The words behind `replay`: what is written, an image and a trace.
+fn replay_of(words: &[String]) -> Option<Command<'_>>
+    ensures value { MatchOption result (replay_of words.now ≡ None) (λ command. replay_of words.now ≡ Some (told command)) }
+    ensures few { IfSome result HasFewOperations }
+{
+    match words {
+        [mode, image, trace] => match output_of(mode.as_str()) {
+            Some(output) => Some(Command::Replay {
+                output,
+                image: image.as_str(),
+                trace: trace.as_str(),
+            }),
+            None => None,
+        },
+        _ => None,
+    }
+}
+
+/// The command of the words, or none where they are no command.
+pub(crate) fn command_of(words: &[String]) -> Option<Command<'_>>
+    ensures value { MatchOption result (command_of words.now ≡ None) (λ command. command_of words.now ≡ Some (told command)) }
+    ensures few { IfSome result HasFewOperations }
+{
+    let [command, rest @ ..] = words else {
+        return None;
+    };
+    if command.as_str() == VERIFY {
+        return verify_of(rest);
+    }
+    if command.as_str() == GENERATE {
+        return generate_of(rest);
+    }
+    if command.as_str() == REPLAY {
+        return replay_of(rest);
+    }
+    None
 }

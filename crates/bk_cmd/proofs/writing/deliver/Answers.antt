@@ -1,5 +1,4 @@
-use Rattle.std.proofs.Common.{◌≡◌, ◌+◌, length, take, List, ℕ, ap, subst, sym, ◌∙◌}
-use Rattle.std.specs.Prelude.{◌++◌}
+use Rattle.std.proofs.Common.{◌≡◌, ◌+◌, length, ap}
 use Rattle.bk_cmd.specs.Outcomes.{Facts}
 use Rattle.bk_cmd.proofs.Parts.{part_of_both}
 use Rattle.bk_cmd.proofs.writing.deliver.Goals as goal
