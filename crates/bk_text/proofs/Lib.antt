@@ -1,2 +1,4 @@
-pub mod Lines
-pub mod Numbers
+pub mod Cuts
+pub mod Digits
+pub mod Laws
+pub mod Rows

@@ -1,7 +1,7 @@
 -- Texts of lines, words and numbers, as lists of bytes.
-use Rattle.std.specs.Prelude.{ℕ, ◌^◌, Bool, ◌&&◌, ◌||◌, List, ◌∷◌, length, map, Option, Some, None, nat_lt, nat_le, ◌==◌, if◌then◌else◌}
+use Rattle.std.specs.Prelude.{ℕ, ◌^◌, Bool, true, false, ◌&&◌, ◌||◌, List, [], ◌∷◌, length, map, drop, Option, Some, None, nat_lt, nat_le, ◌==◌, if◌then◌else◌}
 use Rattle.std.specs.Char.{digit_value}
-use Rattle.std.specs.List.{slice_split, before_first, filter, list_all}
+use Rattle.std.specs.List.{slice_split, before_first, position_or_len, filter, list_all}
 use Rattle.std.specs.Str.Lines.{lines}
 use Rattle.std.specs.Str.Parse.{digits_value}
 
@@ -17,17 +17,25 @@ is_text bytes = list_all (λ line. list_all is_text_byte line) (lines bytes)
 abbrev pub is_blank : ℕ → Bool
 is_blank b = b == 32 || b == 9
 
--- what stands before the first `#`
-abbrev pub before_comment : List ℕ → List ℕ
-before_comment line = before_first (λ b. b == 35) line
+-- what stands before the first byte that begins a comment
+abbrev pub before_comment : ℕ → List ℕ → List ℕ
+before_comment mark line = before_first (λ b. b == mark) line
+
+-- a line's comment, from the byte that begins it on
+abbrev pub comment_of : ℕ → List ℕ → List ℕ
+comment_of mark line = drop (position_or_len (λ b. b == mark) line) line
+
+abbrev pub is_nonempty : {X : Type 0} → List X → Bool
+is_nonempty [] = false
+is_nonempty (x ∷ xs) = true
 
 -- the words of a line, up to its comment
-abbrev pub words_of : List ℕ → List (List ℕ)
-words_of line = filter (λ word. nat_lt 0 (length word)) (slice_split is_blank (before_comment line))
+abbrev pub words_of : ℕ → List ℕ → List (List ℕ)
+words_of mark line = filter is_nonempty (slice_split is_blank (before_comment mark line))
 
 -- the words of each line that has some
-abbrev pub rows_of : List ℕ → List (List (List ℕ))
-rows_of bytes = filter (λ row. nat_lt 0 (length row)) (map words_of (lines bytes))
+abbrev pub rows_of : ℕ → List ℕ → List (List (List ℕ))
+rows_of mark bytes = filter is_nonempty (map (words_of mark) (lines bytes))
 
 abbrev pub is_digit : ℕ → ℕ → Bool
 is_digit radix b = nat_lt (digit_value b) radix

@@ -1,29 +1,23 @@
 //! Texts of lines, words and numbers: what a file is before its own grammar.
+//!
+//! A line ends with LF or CR LF, and the last one may lack its end. Words are the longest runs of
+//! bytes without spaces and tabs. Lines and columns count from 1, columns in bytes.
+//!
+//! [`Lines`] gives the words of a whole text with their places in it. [`cut_line`] and [`Row`] go
+//! line by line, for grammars with comments.
 #![tactic(auto)]
 
-mod number;
-mod words;
 
-pub use number::parse_number;
-pub use words::{is_text, rows};
+mod lines;
+mod numbers;
+mod row;
+mod scan;
+
+
+pub use lines::{Lines, Word};
+pub use numbers::number;
+pub use row::{Placed, Row};
+pub use scan::{cut_line, is_text_byte};
 
 #[cfg(test)]
-mod tests {
-    use super::*;
-    use std::test::Fail;
-
-    #[test]
-    fn reads_a_text(rt: HostRuntime) -> Result<(), Fail> {
-        let text = b" \r\n12 ab#cd e\n\n0x1F\t0x1F";
-        assert!(rt; is_text(text));
-        assert!(rt; !is_text(b"a\rb"));
-        let rows = rows(rt.alloc(), text)?;
-        assert_eq!(rt; rows.len(), 2);
-        assert_eq!(rt; rows[0].len(), 2);
-        assert_eq!(rt; parse_number(rows[0][0]), Some(12));
-        assert_eq!(rt; parse_number(rows[0][1]), None);
-        assert_eq!(rt; rows[1].len(), 2);
-        assert_eq!(rt; parse_number(rows[1][0]), Some(31));
-        Ok(())
-    }
-}
+mod tests;
