@@ -66,10 +66,10 @@ statement_draft d s p is h lt =
 pub label_draft : (d : Draft) (name : List ℕ) (p : ℕ) → p ≡ length d.statements → IsDraft d
     → IsDraft (record { statements = d.statements; knows = d.knows; labels = insert_entry (slice_cmp nat_cmp) d.labels name p; know = d.know; waits = true })
 label_draft d name p is h = record {
-    few = h.few;
-    lines = h.lines;
-    labels = insert_under (length d.statements + 1) d.labels name p (omega arith) (under_more (length d.statements + cond d.waits 1 0) (length d.statements + 1) d.labels (waiting_one d.waits (length d.statements)) h.labels);
-  }
+  few = h.few;
+  lines = h.lines;
+  labels = insert_under (length d.statements + 1) d.labels name p (omega arith) (under_more (length d.statements + cond d.waits 1 0) (length d.statements + 1) d.labels (waiting_one d.waits (length d.statements)) h.labels);
+}
 
 -- where a branch goes
 pub target_ok : (l : Last) (place : ℕ) → is_target l ≡ true → place < 256 → last_ok l place ≡ true

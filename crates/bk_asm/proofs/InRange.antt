@@ -83,9 +83,9 @@ zero_too sort = admits (allowed sort) 0
 
 perhaps : (sort : Names) (n : ℕ) → zero_too sort ≡ true → n == 0 || is_value sort n ≡ true → admits (allowed sort) n ≡ true
 perhaps sort n zero e = elim (test_of (n == 0)) [
-    | inl is ↦ ap (admits (allowed sort)) (eqb-true n 0 is) ∙ zero
-    | inr not ↦ admitted sort n (sym (ap (λ t. t || is_value sort n) not) ∙ e)
-  ]
+  | inl is ↦ ap (admits (allowed sort)) (eqb-true n 0 is) ∙ zero
+  | inr not ↦ admitted sort n (sym (ap (λ t. t || is_value sort n) not) ∙ e)
+]
 
 abbrev zero_ok : Slot → Bool
 zero_ok (slots.Perhaps sort) = zero_too sort

@@ -124,7 +124,6 @@ value_holds p (name ∷ more) v e h =
       | inr not ↦ value_holds p more v parts.1 (sym (ap (λ t. t || has_value more v) not) ∙ h)
     ]
 
-
 pub if_some : (P : ℕ → Type 0) (o : Option ℕ) → ((s : ℕ) → o ≡ Some s → P s) → IfSome o P
 if_some P None h = tt
 if_some P (Some s) h = h s refl

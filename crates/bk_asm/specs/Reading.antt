@@ -201,7 +201,7 @@ values_of k None = None
 unfoldable pub entry_of : ℕ → List ℕ → Option (ℕ × ℕ)
 entry_of seen word =
     option_and_then (λ k. option_map (λ set. (k, set)) (values_of k (cut_at 61 word).1))
-        (option_and_then (fresh seen) (named (names_of names.Field) (cut_at 61 word).0))
+    (option_and_then (fresh seen) (named (names_of names.Field) (cut_at 61 word).0))
 
 -- the fields of a know line, each of which takes the place of the one that was there; the comment behind them may have a bad byte
 unfoldable pub entries_at : Sets → ℕ → Option ℕ → List Marked → Result Sets At

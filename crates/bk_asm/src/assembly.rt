@@ -49,7 +49,12 @@ pub fn assemble(alloc: Global, text: &[u8]) -> Result<Image, AsmFault>
     while !rest.is_empty() {
         let (front, behind) = cut_line(rest);
         line += 1;
-        let parts = match line_at(&draft.labels, draft.before(), line, &mut Row::of(COMMENT, front)) {
+        let parts = match line_at(
+            &draft.labels,
+            draft.before(),
+            line,
+            &mut Row::of(COMMENT, front),
+        ) {
             Ok(parts) => parts,
             Err(fault) => return Err(fault.on_line(line)),
         };

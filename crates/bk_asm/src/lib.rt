@@ -15,6 +15,5 @@ mod statement;
 pub use assembly::assemble;
 pub use fault::{AsmFault, Kind};
 
-
 #[cfg(test)]
 mod tests;

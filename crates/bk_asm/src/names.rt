@@ -45,7 +45,15 @@ pub(crate) fn value_names(field: u8) -> &'static [(&'static str, u8)]
 {
     match field {
         1 => &[("Idle", 0), ("Blocked", 1), ("Held", 2), ("Closing", 3)],
-        2 => &[("None", 0), ("Request", 1), ("InvAck", 2), ("CohAck", 3), ("Wb", 4), ("NullWb", 5), ("Block", 6)],
+        2 => &[
+            ("None", 0),
+            ("Request", 1),
+            ("InvAck", 2),
+            ("CohAck", 3),
+            ("Wb", 4),
+            ("NullWb", 5),
+            ("Block", 6),
+        ],
         3 => &[("free", 0), ("pending", 1)],
         4 => &[("Rd", 0), ("Wr", 1), ("UcRd", 2), ("UcWr", 3), ("Evict", 4)],
         5 => &[("no", 0), ("row", 1), ("sum", 2)],
@@ -56,7 +64,14 @@ pub(crate) fn value_names(field: u8) -> &'static [(&'static str, u8)]
         10 => &[("zero", 0), ("some", 1)],
         11 => &[("idle", 0), ("asked", 1), ("dirty", 2)],
         12 => &[("idle", 0), ("asked", 1), ("got", 2), ("written", 3)],
-        13 => &[("paid", 0), ("S", 1), ("E", 2), ("F", 3), ("M", 4), ("O", 5)],
+        13 => &[
+            ("paid", 0),
+            ("S", 1),
+            ("E", 2),
+            ("F", 3),
+            ("M", 4),
+            ("O", 5),
+        ],
         14 => &[("paid", 0), ("I", 1), ("S", 2), ("F", 3), ("O", 4)],
         _ => &[("0", 0), ("1", 1)],
     }
@@ -76,7 +91,16 @@ pub(crate) fn names_of(names: Names) -> &'static [(&'static str, u8)]
     ensures { map (λ name. (name.0.now, name.1)) result.now ≡ names_of names }
 {
     match names {
-        Names::Register => &[("r0", 0), ("r1", 1), ("r2", 2), ("r3", 3), ("r4", 4), ("r5", 5), ("r6", 6), ("r7", 7)],
+        Names::Register => &[
+            ("r0", 0),
+            ("r1", 1),
+            ("r2", 2),
+            ("r3", 3),
+            ("r4", 4),
+            ("r5", 5),
+            ("r6", 6),
+            ("r7", 7),
+        ],
         Names::Flag => &[("f0", 0), ("f1", 1), ("f2", 2), ("f3", 3)],
         Names::State => &[("I", 0), ("S", 1), ("E", 2), ("F", 3), ("M", 6), ("O", 7)],
         Names::Valid => &[("S", 1), ("E", 2), ("F", 3), ("M", 6), ("O", 7)],
@@ -88,8 +112,40 @@ pub(crate) fn names_of(names: Names) -> &'static [(&'static str, u8)]
         Names::Holder => &[("own", 0), ("owner", 1), ("victim", 2)],
         Names::Pending => &[("wp", 1)],
         Names::Owner => &[("o", 1)],
-        Names::Tested => &[("head", 2), ("gp", 3), ("kind", 4), ("own", 6), ("owner", 7), ("others", 8), ("victim", 9), ("acks", 10), ("f0", 15), ("f1", 16), ("f2", 17), ("f3", 18)],
-        Names::Field => &[("stage", 1), ("head", 2), ("gp", 3), ("kind", 4), ("summ", 5), ("own", 6), ("owner", 7), ("others", 8), ("victim", 9), ("acks", 10), ("wb", 11), ("mem", 12), ("dreq", 13), ("down", 14), ("f0", 15), ("f1", 16), ("f2", 17), ("f3", 18)],
+        Names::Tested => &[
+            ("head", 2),
+            ("gp", 3),
+            ("kind", 4),
+            ("own", 6),
+            ("owner", 7),
+            ("others", 8),
+            ("victim", 9),
+            ("acks", 10),
+            ("f0", 15),
+            ("f1", 16),
+            ("f2", 17),
+            ("f3", 18),
+        ],
+        Names::Field => &[
+            ("stage", 1),
+            ("head", 2),
+            ("gp", 3),
+            ("kind", 4),
+            ("summ", 5),
+            ("own", 6),
+            ("owner", 7),
+            ("others", 8),
+            ("victim", 9),
+            ("acks", 10),
+            ("wb", 11),
+            ("mem", 12),
+            ("dreq", 13),
+            ("down", 14),
+            ("f0", 15),
+            ("f1", 16),
+            ("f2", 17),
+            ("f3", 18),
+        ],
     }
 }
 

@@ -110,11 +110,7 @@ fn too_many(word: Placed<'_>) -> At
 
 /// The operation of a mnemonic, of which `full` says that an image has no room for it.
 #[tactic(auto, unfolding(crate::specs::Reading::mnemonic_at))]
-pub(crate) fn mnemonic_at(
-    full: bool,
-    word: Placed<'_>,
-    row: &mut Row<'_>,
-) -> Result<Operation, At>
+pub(crate) fn mnemonic_at(full: bool, word: Placed<'_>, row: &mut Row<'_>) -> Result<Operation, At>
     ensures value { Steps (λ x. x) result row.new (mnemonic_at full (record { column = word.entry.column; word = word.entry.word.now }) row.old) }
     ensures room { IfOk result (λ _. full ≡ false) }
 {

@@ -11,4 +11,4 @@ with_last-requires-in-Some-place_of c = λ h.
     let waits = ap (λ d. d.waits) c.self.view_is ∙ c.requires in
     let goes = sym h.target ∙ (ap (λ s. is_some s.target) (sym c.statement.view_is) ∙ ap is_some c.in-Some.is) in
     target_ok (shape c.args.statement.now.operation).last c.in-Some-place_of.place goes
-      (place_ok d c.target.inside.name.now c.in-Some-place_of.place c.self.invariant waits (sym c.place_of.ensures ∙ c.in-Some-place_of.is))
+    (place_ok d c.target.inside.name.now c.in-Some-place_of.place c.self.invariant waits (sym c.place_of.ensures ∙ c.in-Some-place_of.is))
