@@ -7,13 +7,16 @@ mod fault;
 mod know;
 mod labels;
 mod line;
+mod mnemonic;
 mod names;
 mod operand;
 mod operation;
 mod statement;
+mod writing;
 
 pub use assembly::assemble;
 pub use fault::{AsmFault, Kind};
+pub use writing::disassemble;
 
 #[cfg(test)]
 mod tests;

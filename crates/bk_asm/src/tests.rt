@@ -2,6 +2,10 @@ use super::*;
 use bk_image::write_image;
 use std::test::*;
 
+/// The canonical text of an image that serves requests past the caches.
+const UNCACHED: &str =
+    "L000:\n  wfq resp,req\n  bk head Request L004\n  popq wp\n  bi L000\nL004:\n  bk gp free L009\n  defer\n  wfq resp\n  popq wp\n  bi L000\nL009:\n  popq wp\n  bk kind UcRd L015\n  pushq memww\n  pushq ucdone\n  fin\n  bi L000\nL015:\n  pushq memrd\n  wfq mem\n  popq\n  pushq ucblk\n  fin\n  bi L000\n";
+
 /// The line, the column and the kind of a text's fault.
 fn fault_of(rt: &HostRuntime, text: &[u8]) -> Option<[u64; 3]> {
     match assemble(rt.alloc(), text) {
@@ -108,6 +112,10 @@ fn images(rt: HostRuntime) -> Result<(), Fail> {
         ),
         ("wfq req,resp\n", "0000000000000550"),
         ("wfq req,req,mem\n", "0000000000000650"),
+        (
+            UNCACHED,
+            "00000000000005500400000000020225000000000000015100000000000000200900000000010325000000000000005200000000000001500000000000000151000000000000002000000000000001510f000000000404250000000000000069000000000000006500000000000000440000000000000020000000000000006700000000000002500000000000000051000000000000006400000000000000440000000000000020",
+        ),
     ] {
         assert!(rt; digits_of(&rt, text)?.as_str() == digits, "{text:?}");
     }
@@ -125,5 +133,38 @@ fn at_most_256_instructions(rt: HostRuntime) -> Result<(), Fail> {
     assert_eq!(rt; fault_of(&rt, &text), Some([257, 3, 30]));
     text.extend_from_slice(b"p")?;
     assert_eq!(rt; fault_of(&rt, &text), Some([257, 3, 21]));
+    Ok(())
+}
+
+/// The bytes of the image of a text are those of the image of its canonical text, which is this one.
+fn canonical(rt: &HostRuntime, text: &str, canonical: &str) -> Result<bool, Fail> {
+    let image = assemble(rt.alloc(), text.as_bytes())?;
+    Ok(disassemble(rt.alloc(), &image)?.as_slice() == canonical.as_bytes())
+}
+
+#[test]
+fn canonical_texts(rt: HostRuntime) -> Result<(), Fail> {
+    for (text, written) in [
+        (UNCACHED, UNCACHED),
+        (
+            "x: wfq req,resp ; 0\n bi x",
+            "L000:\n  wfq resp,req\n  bi L000\n",
+        ),
+        (
+            "know held own=S|I others=no|yes gp=pending\nnop\nknow idle stage=Closing|Held\nmovi r7 0xff",
+            "  know held gp=pending own=I|S\n  nop\n  know held stage=Held|Closing kind=Rd own=I owner=none others=no victim=light\n  movi r7 255\n",
+        ),
+        (
+            "a: bk kind Evict,Rd a\npopq\npopq wp\ninv o\n",
+            "L000:\n  bk kind Rd,Evict L000\n  popq\n  popq wp\n  inv o\n",
+        ),
+        (
+            "pushq stwb victim I\npushq tr O S\nwds owner F\nshl r0 r1 63",
+            "  pushq stwb victim I\n  pushq tr O S\n  wds owner F\n  shl r0 r1 63\n",
+        ),
+    ] {
+        assert!(rt; canonical(&rt, text, written)?, "{text:?}");
+        assert!(rt; canonical(&rt, written, written)?, "{text:?}");
+    }
     Ok(())
 }
