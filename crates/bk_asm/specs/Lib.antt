@@ -1,0 +1,9 @@
+pub mod Drafts
+pub mod Faults
+pub mod Mnemonics
+pub mod Names
+pub mod Operations
+pub mod Programs
+pub mod Ranges
+pub mod Reading
+pub mod Writing

@@ -1,0 +1,34 @@
+-- A program as it is read: instructions whose targets are labels, know lines and labels.
+use Rattle.std.specs.Prelude.{◌≡◌, ℕ, ◌<◌, ◌^◌, List, Option, None, Some}
+use Rattle.bk_isa.specs.declared.fields.Fields.{Fields}
+use Rattle.bk_isa.specs.declared.form.Form.{Form}
+use Rattle.bk_isa.specs.Fields.{fields_with, form_of}
+use Rattle.bk_isa.specs.Words.{IsInRange}
+use Rattle.bk_know.specs.declared.sets.Sets.{Sets}
+use Rattle.bk_asm.specs.Operations.{opcode}
+use Rattle.bk_asm.specs.declared.operation.Operation.{Operation}
+
+-- a use of a label: where it stands, and the label's name
+pub record Use : Type 0 where
+  pub line : ℕ
+  pub column : ℕ
+  pub name : List ℕ
+
+-- An instruction with its operands. Where it has a target, its last operand is the place of that label.
+pub record Statement : Type 0 where
+  pub operation : Operation
+  pub a : ℕ
+  pub b : ℕ
+  pub c : ℕ
+  pub imm : ℕ
+  pub target : Option Use
+
+-- its form, with this last operand
+abbrev pub form_with : Statement → ℕ → Form
+form_with s imm = form_of (fields_with (opcode s.operation) s.a s.b s.c imm)
+
+-- what a line has: a label, a know line, an instruction
+pub record LineParts : Type 0 where
+  pub label : Option (List ℕ)
+  pub know : Option Sets
+  pub does : Option Statement

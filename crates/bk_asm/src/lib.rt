@@ -1,0 +1,22 @@
+//! Microcode as text: the assembler and the disassembler.
+#![tactic(auto)]
+
+mod assembly;
+mod draft;
+mod fault;
+mod know;
+mod labels;
+mod line;
+mod mnemonic;
+mod names;
+mod operand;
+mod operation;
+mod statement;
+mod writing;
+
+pub use assembly::assemble;
+pub use fault::{AsmFault, Kind};
+pub use writing::disassemble;
+
+#[cfg(test)]
+mod tests;

@@ -1,0 +1,170 @@
+use super::*;
+use bk_image::write_image;
+use std::test::*;
+
+/// The canonical text of an image that serves requests past the caches.
+const UNCACHED: &str =
+    "L000:\n  wfq resp,req\n  bk head Request L004\n  popq wp\n  bi L000\nL004:\n  bk gp free L009\n  defer\n  wfq resp\n  popq wp\n  bi L000\nL009:\n  popq wp\n  bk kind UcRd L015\n  pushq memww\n  pushq ucdone\n  fin\n  bi L000\nL015:\n  pushq memrd\n  wfq mem\n  popq\n  pushq ucblk\n  fin\n  bi L000\n";
+
+/// The line, the column and the kind of a text's fault.
+fn fault_of(rt: &HostRuntime, text: &[u8]) -> Option<[u64; 3]> {
+    match assemble(rt.alloc(), text) {
+        Err(AsmFault::Bad { line, column, kind }) => Some([line, column, kind as u64]),
+        Err(AsmFault::Memory) | Ok(_) => None,
+    }
+}
+
+#[test]
+fn faults(rt: HostRuntime) {
+    for (text, place) in [
+        ("bi x\nb:\n", [2, 1, 28]),
+        ("nop \x01\n", [1, 5, 20]),
+        ("bi ; \x01\n", [1, 6, 20]),
+        ("no\x01\n", [1, 1, 21]),
+        ("know idle owner=I\nnop\n", [1, 11, 27]),
+        ("know busy\nnop\n", [1, 6, 27]),
+        ("addi r0 r1 x\n", [1, 12, 23]),
+        ("add r0 r8 r1\n", [1, 8, 22]),
+        ("a: bk stage Held a\n", [1, 7, 22]),
+        ("\n\n", [2, 1, 29]),
+        (": nop\n", [1, 1, 21]),
+        ("add r0,r1,r2\n", [1, 5, 22]),
+        ("; a", [1, 1, 29]),
+        ("nop\r nop\n", [1, 1, 21]),
+        ("", [1, 1, 29]),
+        ("nop nop\n", [1, 5, 24]),
+        ("inv x\n", [1, 5, 22]),
+        ("nop\nknow idle\n", [2, 1, 28]),
+        ("know idle own=I own=S\nnop\n", [1, 17, 27]),
+        ("know\nnop\n", [1, 5, 27]),
+        ("know ; abc\nnop\n", [1, 11, 27]),
+        ("know idle\nknow idle\nnop\n", [2, 1, 27]),
+        ("nop\na:\n", [2, 1, 28]),
+        ("abcdefghijklmnopq: nop\n", [1, 1, 21]),
+        ("add r0,r1\n", [1, 5, 22]),
+        ("add\n", [1, 4, 22]),
+        ("add r0 r1 ; c\n", [1, 14, 22]),
+        ("movi r3 4294967296\n", [1, 9, 23]),
+        ("shl r0 r1 64\n", [1, 11, 23]),
+        ("frob \x01\nnop\n", [1, 1, 21]),
+        ("popq wx\n", [1, 6, 22]),
+        ("pushq foo\n", [1, 7, 22]),
+        ("a: b: nop\n", [1, 4, 21]),
+        ("pushq stwb own E\n", [1, 16, 22]),
+        ("pushq tr E S\n", [1, 10, 22]),
+        ("a: nop\na: nop\n", [2, 1, 25]),
+        ("bi x\n", [1, 4, 26]),
+        ("frob r1\n", [1, 1, 21]),
+        ("nop\n  frob\n", [2, 3, 21]),
+        ("wde I\n", [1, 5, 22]),
+        ("wfq rex\n", [1, 5, 22]),
+        ("a: nop\nknow idle\na: know idle\nnop\n", [3, 1, 25]),
+        ("know idle\nb: know idle\nnop\n", [2, 4, 27]),
+        ("bi 5\n", [1, 4, 22]),
+    ] {
+        assert_eq!(rt; fault_of(&rt, text.as_bytes()), Some(place), "{text:?}");
+    }
+}
+
+/// The bytes of the image of a text behind its first 16, by hexadecimal digits.
+fn digits_of(rt: &HostRuntime, text: &str) -> Result<String, Fail> {
+    let image = assemble(rt.alloc(), text.as_bytes())?;
+    let mut digits = String::new(rt.alloc());
+    for byte in &write_image(rt.alloc(), &image)?[16..] {
+        write!(digits, "{byte:02x}")?;
+    }
+    Ok(digits)
+}
+
+#[test]
+fn images(rt: HostRuntime) -> Result<(), Fail> {
+    for (text, digits) in [
+        ("add r0 r1 r2\n", "0000000002010001"),
+        ("a: bk own S,E,F a\n", "00000000000e0625"),
+        ("a: bk gp free a\n", "0000000000010325"),
+        (
+            "x: beq r0 r1 x\nbne r0 r1 x\nblt r1 r2 x\nbge r7 r0 x\n",
+            "0000000000010021000000000001002200000000000201230000000000000724",
+        ),
+        ("nop\r\nnop\r\n", "00000000000000000000000000000000"),
+        (
+            "sf f0\ncf f1\nnf f2\nmovf f3 f0\nandf f0 f1\norf f2 f3\n",
+            "000000000000003000000000000001310000000000000232000000000000033300000000000100340000000000030235",
+        ),
+        (
+            "know held own=S|I|S\nnop\n",
+            "00000000000000000000000014e867f85f2208ff",
+        ),
+        ("abcdefghijklmnop: nop\n", "0000000000000000"),
+        (
+            "a: know idle\nnop\n",
+            "00000000000000000000000011282408552208ff",
+        ),
+        ("nop", "0000000000000000"),
+        ("nop;x\n", "0000000000000000"),
+        ("movi r3 0xFf\n", "ff0000000000030c"),
+        ("nop\n", "0000000000000000"),
+        ("\tnop\t\n", "0000000000000000"),
+        ("pushq tr O S\n", "0000000000010763"),
+        (
+            "wds own M\nwds owner F\nwde S\n",
+            "000000000006004300000000000301430000000000000142",
+        ),
+        ("wfq req,resp\n", "0000000000000550"),
+        ("wfq req,req,mem\n", "0000000000000650"),
+        (
+            UNCACHED,
+            "00000000000005500400000000020225000000000000015100000000000000200900000000010325000000000000005200000000000001500000000000000151000000000000002000000000000001510f000000000404250000000000000069000000000000006500000000000000440000000000000020000000000000006700000000000002500000000000000051000000000000006400000000000000440000000000000020",
+        ),
+    ] {
+        assert!(rt; digits_of(&rt, text)?.as_str() == digits, "{text:?}");
+    }
+    Ok(())
+}
+
+#[test]
+fn at_most_256_instructions(rt: HostRuntime) -> Result<(), Fail> {
+    let mut text = Vec::new(rt.alloc());
+    for _ in 0..256 {
+        text.extend_from_slice(b"nop\n")?;
+    }
+    assert_eq!(rt; assemble(rt.alloc(), &text)?.instrs().len(), 256);
+    text.extend_from_slice(b"  nop")?;
+    assert_eq!(rt; fault_of(&rt, &text), Some([257, 3, 30]));
+    text.extend_from_slice(b"p")?;
+    assert_eq!(rt; fault_of(&rt, &text), Some([257, 3, 21]));
+    Ok(())
+}
+
+/// The bytes of the image of a text are those of the image of its canonical text, which is this one.
+fn canonical(rt: &HostRuntime, text: &str, canonical: &str) -> Result<bool, Fail> {
+    let image = assemble(rt.alloc(), text.as_bytes())?;
+    Ok(disassemble(rt.alloc(), &image)?.as_slice() == canonical.as_bytes())
+}
+
+#[test]
+fn canonical_texts(rt: HostRuntime) -> Result<(), Fail> {
+    for (text, written) in [
+        (UNCACHED, UNCACHED),
+        (
+            "x: wfq req,resp ; 0\n bi x",
+            "L000:\n  wfq resp,req\n  bi L000\n",
+        ),
+        (
+            "know held own=S|I others=no|yes gp=pending\nnop\nknow idle stage=Closing|Held\nmovi r7 0xff",
+            "  know held gp=pending own=I|S\n  nop\n  know held stage=Held|Closing kind=Rd own=I owner=none others=no victim=light\n  movi r7 255\n",
+        ),
+        (
+            "a: bk kind Evict,Rd a\npopq\npopq wp\ninv o\n",
+            "L000:\n  bk kind Rd,Evict L000\n  popq\n  popq wp\n  inv o\n",
+        ),
+        (
+            "pushq stwb victim I\npushq tr O S\nwds owner F\nshl r0 r1 63",
+            "  pushq stwb victim I\n  pushq tr O S\n  wds owner F\n  shl r0 r1 63\n",
+        ),
+    ] {
+        assert!(rt; canonical(&rt, text, written)?, "{text:?}");
+        assert!(rt; canonical(&rt, written, written)?, "{text:?}");
+    }
+    Ok(())
+}
