@@ -3,6 +3,12 @@ use Rattle.std.specs.Prelude.{◌≡◌, ℕ, List, codes, Result, Ok, Err}
 use Rattle.bk_image.specs.Faults.{Bad}
 use Rattle.bk_image.specs.Images.{Parts}
 use Rattle.bk_image.specs.Reading.{image_at}
+use Rattle.bk_image.specs.Spelling as images
+use Rattle.bk_asm.specs.Faults as asm_faults
+use Rattle.bk_asm.specs.Reading as asm
+use Rattle.bk_asm.specs.Writing as texts
+use Rattle.bk_cmd.specs.declared.words.Question.{Question}
+use Rattle.bk_cmd.specs.declared.words.Question.TheVariants.{Verdict, Assembly, Disassembly}
 use Rattle.bk_base.specs.Places.{Shape}
 use Rattle.bk_trace.specs.Generator.{generated}
 use Rattle.bk_trace.specs.Spelling.{spelling}
@@ -32,9 +38,23 @@ VerdictOn (Err bad) (Due text) = ⊥
 VerdictOn (Err bad) (Refuses at obligation) = ⊥
 VerdictOn (Err bad) (Fault at column kind) = (bad ≡ bad_at at kind) × (column ≡ 0)
 
--- what `verify` says of a file's bytes
-abbrev pub VerifySays : List ℕ → Answer → Type 0
-VerifySays bytes answer = VerdictOn (image_at bytes) answer
+-- the bytes of the image that a text spells, or the text's first fault
+abbrev pub AssemblyOf : Result Parts asm_faults.Bad → Answer → Type 0
+AssemblyOf (Ok image) (Due text) = text ≡ images.spelling image
+AssemblyOf (Err bad) (Fault at column kind) = bad ≡ record { line = at; column = column; kind = kind }
+AssemblyOf _ _ = ⊥
+
+-- the canonical text of an image, or the first fault of bytes that are none
+abbrev pub DisassemblyOf : Result Parts Bad → Answer → Type 0
+DisassemblyOf (Ok image) (Due text) = text ≡ texts.spelling image
+DisassemblyOf (Err bad) (Fault at column kind) = (bad ≡ bad_at at kind) × (column ≡ 0)
+DisassemblyOf _ _ = ⊥
+
+-- what `verify`, `asm` and `dis` say of a file's bytes
+abbrev pub SaysOf : Question → List ℕ → Answer → Type 0
+SaysOf Verdict bytes answer = VerdictOn (image_at bytes) answer
+SaysOf Assembly bytes answer = AssemblyOf (asm.image_at bytes) answer
+SaysOf Disassembly bytes answer = DisassemblyOf (image_at bytes) answer
 
 -- what `gen` says: the canonical text of the drawn trace
 abbrev pub drawn_text : ℕ → Shape → ℕ → List ℕ

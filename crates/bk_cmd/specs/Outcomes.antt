@@ -3,6 +3,8 @@ use Rattle.std.specs.Prelude.{◌≡◌, ℕ, [], Bool, false, ◌==◌, ◌||�
 use Rattle.bk_check.specs.declared.pass.Refusal.{Refusal}
 use Rattle.bk_image.specs.Faults as images
 use Rattle.bk_image.specs.declared.fault.Kind.TheVariants as image_kinds
+use Rattle.bk_asm.specs.Faults as texts
+use Rattle.bk_asm.specs.declared.fault.Kind.TheVariants as text_kinds
 use Rattle.bk_trace.specs.Faults as traces
 use Rattle.bk_trace.specs.declared.fault.Kind.TheVariants as trace_kinds
 use Rattle.bk_cmd.specs.declared.outcome.Outcome.{Outcome}
@@ -25,9 +27,10 @@ pub record Facts : Type 0 where
 abbrev pub facts_of : Outcome → Facts
 facts_of o = record { status = o.status; file = o.file; at = o.at; column = o.column; kind = o.kind; refusal = o.refusal; written = o.written }
 
--- a fault of this kind is that a list is over its limit: an image has too many instructions, or a trace too many operations
+-- a fault of this kind is that a list is over its limit: an image or a text of microcode has too many instructions, or a trace too
+-- many operations
 abbrev pub is_limit : ℕ → Bool
-is_limit kind = kind == images.kind_code image_kinds.TooMany || kind == traces.kind_code trace_kinds.TooMany
+is_limit kind = kind == images.kind_code image_kinds.TooMany || kind == texts.kind_code text_kinds.TooMany || kind == traces.kind_code trace_kinds.TooMany
 
 abbrev pub no_run : ℕ → ℕ → Option Refusal → Facts
 no_run status file refusal = record { status = status; file = file; at = 0; column = 0; kind = 0; refusal = refusal; written = 0 }

@@ -6,9 +6,9 @@ use Rattle.bk_image.specs.Faults as faults
 use Rattle.bk_image.specs.Images as images
 use Rattle.bk_trace.specs.Faults as trace_faults
 use Rattle.bk_trace.specs.Traces as traces
-use Rattle.bk_cmd.specs.Answers.{Answer, Due, Refuses, Fault, bad_at, VerifySays, drawn_text}
+use Rattle.bk_cmd.specs.Answers.{Answer, Due, Refuses, Fault, bad_at, SaysOf, drawn_text}
 use Rattle.bk_cmd.specs.Inputs.{Files, FileHolds, ImageIs, TraceIs, AfterImage}
-use Rattle.bk_cmd.specs.Words.{Command, Verify, Generate, Replay, file_of}
+use Rattle.bk_cmd.specs.Words.{Command, OfFile, Source, Generate, Replay, file_of}
 use Rattle.bk_cmd.specs.declared.outcome.Unread as unread
 use Rattle.bk_cmd.specs.declared.outcome.Unread.TheVariants.{Absent, Failed, TooLong}
 use Rattle.bk_cmd.specs.declared.outcome.Stop.{Stop}
@@ -74,13 +74,15 @@ IsTraceStop files name failed missed _ = ⊥
 
 -- this file is the command's, and its turn comes: a trace is read after an image that is fit to run
 abbrev pub Reaches : Files → Command → ℕ → Type 0
-Reaches files (Verify image) file = file ≡ 1
+Reaches files (OfFile question name) file = file ≡ 1
+Reaches files (Source text) file = ⊥
 Reaches files (Generate seed config operations) file = ⊥
 Reaches files (Replay output image trace) file = (file ≡ 1) ⊎ ((file ≡ 2) × AfterImage files image (Unit {0}))
 
 -- what a command says that makes no run: of the bytes of its one file, or of its words alone
 abbrev pub Says : Files → Command → Answer → Type 0
-Says files (Verify image) answer = FileHolds files image (λ bytes. VerifySays bytes answer)
+Says files (OfFile question name) answer = FileHolds files name (λ bytes. SaysOf question bytes answer)
+Says files (Source text) answer = answer ≡ Due text
 Says files (Generate seed config operations) answer = answer ≡ Due (drawn_text seed config operations)
 Says files (Replay output image trace) answer = ⊥
 
@@ -92,7 +94,8 @@ IsBadInput files image trace file at column kind =
 
 -- the file of this number has this fault
 abbrev pub IsBad : Files → Command → ℕ → ℕ → ℕ → ℕ → Type 0
-IsBad files (Verify image) file at column kind = (file ≡ 1) × Says files (Verify image) (Fault at column kind)
+IsBad files (OfFile question name) file at column kind = (file ≡ 1) × Says files (OfFile question name) (Fault at column kind)
+IsBad files (Source text) file at column kind = ⊥
 IsBad files (Generate seed config operations) file at column kind = ⊥
 IsBad files (Replay output image trace) file at column kind = IsBadInput files image trace file at column kind
 

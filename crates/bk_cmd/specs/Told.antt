@@ -2,10 +2,11 @@
 use Rattle.std.specs.Prelude.{◌≤◌}
 use Rattle.bk_cmd.specs.declared.words.Command as code
 use Rattle.bk_cmd.specs.declared.words.Command.TheVariants as variants
-use Rattle.bk_cmd.specs.Words.{Command, Verify, Generate, Replay}
+use Rattle.bk_cmd.specs.Words.{Command, OfFile, Source, Generate, Replay}
 
 abbrev pub told : code.Command → Command
-told (variants.Verify image) = Verify image.now
+told (variants.OfFile question name) = OfFile question name.now
+told (variants.Source text) = Source text.now
 told (variants.Generate seed config operations) = Generate seed config operations
 told (variants.Replay output image trace) = Replay output image.now trace.now
 

@@ -3,14 +3,19 @@ use Rattle.std.specs.Prelude.{ℕ, ◌^◌, List, [], ◌∷◌, ◌==◌, Optio
 use Rattle.std.specs.Str.{bytes_eq}
 use Rattle.std.specs.Global.{Global}
 use Rattle.bk_base.specs.Places.{Shape}
+use Rattle.bk_proto.specs.Sources.{source_of}
 use Rattle.bk_cmd.specs.Numbers.{below, config_in}
+use Rattle.bk_cmd.specs.declared.words.Question.{Question}
+use Rattle.bk_cmd.specs.declared.words.Question.TheVariants.{Verdict, Assembly, Disassembly}
 use Rattle.bk_cmd.specs.declared.words.Output.{Output}
 use Rattle.bk_cmd.specs.declared.words.Output.TheVariants.{Report, LogAndReport}
 
 -- what a command line asks for, with the names of its files
 pub data Command : Type 0 where
-  -- the verdict on an image
-  Verify : (image : List ℕ) → Command
+  -- a question on one file
+  OfFile : (question : Question) (name : List ℕ) → Command
+  -- the source of a program
+  Source : (text : List ℕ) → Command
   -- a trace of so many operations that is drawn from a seed
   Generate : (seed : ℕ) (config : Shape) (operations : ℕ) → Command
   -- the greedy run of an image over a trace, and what is written of it
@@ -32,11 +37,19 @@ generate_with _ _ _ = None
 abbrev pub generate_in : List ℕ → List ℕ → List ℕ → List ℕ → List ℕ → Option Command
 generate_in seed caches sets ways operations = generate_with (below (2 ^ 32) seed) (config_in caches sets ways) (below 10001 operations)
 
--- the words behind `verify`, `gen` and `replay`
+-- the words behind `verify`, `asm` and `dis`, behind `proto`, `gen` and `replay`
 
-abbrev pub verify_of : List (String Global) → Option Command
-verify_of (image ∷ []) = Some (Verify (string_bytes image))
-verify_of _ = None
+abbrev pub file_command : Question → List (String Global) → Option Command
+file_command question (name ∷ []) = Some (OfFile question (string_bytes name))
+file_command question _ = None
+
+abbrev pub source_in : Option (List ℕ) → Option Command
+source_in None = None
+source_in (Some text) = Some (Source text)
+
+abbrev pub source_command : List (String Global) → Option Command
+source_command (name ∷ []) = source_in (source_of (string_bytes name))
+source_command _ = None
 
 abbrev pub generate_of : List (String Global) → Option Command
 generate_of (seed ∷ caches ∷ sets ∷ ways ∷ operations ∷ []) = generate_in (string_bytes seed) (string_bytes caches) (string_bytes sets) (string_bytes ways) (string_bytes operations)
@@ -46,18 +59,22 @@ abbrev pub replay_of : List (String Global) → Option Command
 replay_of (mode ∷ image ∷ trace ∷ []) = replay_in (output_of (string_bytes mode)) (string_bytes image) (string_bytes trace)
 replay_of _ = None
 
--- the command of `verify IMAGE`, `gen SEED CACHES SETS WAYS OPS`, `replay serial IMAGE TRACE` or `replay log IMAGE TRACE`; other
--- words are none
+-- the command of `verify IMAGE`, `asm TEXT`, `dis IMAGE`, `proto NAME`, `gen SEED CACHES SETS WAYS OPS`, `replay serial IMAGE TRACE`
+-- or `replay log IMAGE TRACE`; other words are none
 abbrev pub command_of : List (String Global) → Option Command
 command_of [] = None
 command_of (command ∷ words) =
-    if bytes_eq (string_bytes command) (codes "verify") then verify_of words
+    if bytes_eq (string_bytes command) (codes "verify") then file_command Verdict words
+    else if bytes_eq (string_bytes command) (codes "asm") then file_command Assembly words
+    else if bytes_eq (string_bytes command) (codes "dis") then file_command Disassembly words
+    else if bytes_eq (string_bytes command) (codes "proto") then source_command words
     else if bytes_eq (string_bytes command) (codes "gen") then generate_of words
     else if bytes_eq (string_bytes command) (codes "replay") then replay_of words
     else None
 
 -- the name of the first or the second file that a command names
 abbrev pub file_of : Command → ℕ → Option (List ℕ)
-file_of (Verify image) file = if file == 1 then Some image else None
+file_of (OfFile question name) file = if file == 1 then Some name else None
+file_of (Source text) file = None
 file_of (Generate seed config operations) file = None
 file_of (Replay output image trace) file = if file == 1 then Some image else if file == 2 then Some trace else None

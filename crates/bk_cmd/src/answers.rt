@@ -2,14 +2,18 @@
 
 ghost use Rattle.std.specs.Prelude.{◌≡◌, ◌≤◌, IfOk, IfErr};
 ghost use Rattle.bk_outer.specs.Counts.{Rose};
-ghost use Rattle.bk_cmd.specs.Answers.{Due, VerifySays, drawn_text};
+ghost use Rattle.bk_cmd.specs.Answers.{Due, SaysOf, drawn_text};
 ghost use Rattle.bk_cmd.specs.Stops.{GivesAnswer, Says, IsStop};
-ghost use Rattle.bk_cmd.specs.Words.{Verify};
+ghost use Rattle.bk_cmd.specs.Words.{OfFile};
+ghost use Rattle.bk_cmd.specs.declared.words.Question.TheVariants.{Verdict, Assembly, Disassembly};
 
-use crate::inputs::{bytes_of, image_in};
+use crate::inputs::{FIRST, bytes_of, image_in};
 use crate::outcome::Stop;
+use crate::words::Question;
+use bk_asm::{AsmFault, assemble, disassemble};
 use bk_base::Config;
 use bk_check::check;
+use bk_image::write_image;
 use bk_outer::Shelf;
 use bk_trace::{generate, write_trace};
 use std::alloc::{AllocError, Global};
@@ -19,7 +23,7 @@ const ACCEPTED: &str = "accepted\n";
 
 /// The verdict on the image of these bytes.
 fn verdict_on(alloc: Global, bytes: &[u8]) -> Result<Vec<u8>, Stop>
-    ensures { GivesAnswer result (VerifySays bytes.now) }
+    ensures { GivesAnswer result (SaysOf Verdict bytes.now) }
 {
     let image = match image_in(alloc, bytes) {
         Ok(image) => image,
@@ -34,17 +38,69 @@ fn verdict_on(alloc: Global, bytes: &[u8]) -> Result<Vec<u8>, Stop>
     }
 }
 
-/// What `verify IMAGE` writes.
-pub(crate) fn verify<H: Shelf>(alloc: Global, shelf: &mut H, image: &str) -> Result<Vec<u8>, Stop>
-    ensures ok { IfOk result (λ text. Says (H.files shelf.old) (Verify image.now) (Due text.items)) }
-    ensures err { IfErr result (IsStop (H.files shelf.old) (Verify image.now)
+/// The bytes of the image that a text spells.
+fn assembly_of(alloc: Global, text: &[u8]) -> Result<Vec<u8>, Stop>
+    ensures { GivesAnswer result (SaysOf Assembly text.now) }
+{
+    let image = match assemble(alloc, text) {
+        Ok(image) => image,
+        Err(AsmFault::Bad { line, column, kind }) => {
+            return Err(Stop::Bad {
+                file: FIRST,
+                at: line,
+                column,
+                kind,
+            });
+        }
+        Err(AsmFault::Memory) => return Err(Stop::Memory),
+    };
+    match write_image(alloc, &image) {
+        Ok(bytes) => Ok(bytes),
+        Err(_) => Err(Stop::Memory),
+    }
+}
+
+/// The canonical text of the image of these bytes.
+fn disassembly_of(alloc: Global, bytes: &[u8]) -> Result<Vec<u8>, Stop>
+    ensures { GivesAnswer result (SaysOf Disassembly bytes.now) }
+{
+    let image = match image_in(alloc, bytes) {
+        Ok(image) => image,
+        Err(stop) => return Err(stop),
+    };
+    match disassemble(alloc, &image) {
+        Ok(text) => Ok(text),
+        Err(_) => Err(Stop::Memory),
+    }
+}
+
+/// What is said of a file's bytes.
+fn said_of(alloc: Global, question: Question, bytes: &[u8]) -> Result<Vec<u8>, Stop>
+    ensures { GivesAnswer result (SaysOf question bytes.now) }
+{
+    match question {
+        Question::Verdict => verdict_on(alloc, bytes),
+        Question::Assembly => assembly_of(alloc, bytes),
+        Question::Disassembly => disassembly_of(alloc, bytes),
+    }
+}
+
+/// What `verify IMAGE`, `asm TEXT` and `dis IMAGE` write.
+pub(crate) fn answer_of<H: Shelf>(
+    alloc: Global,
+    shelf: &mut H,
+    question: Question,
+    name: &str,
+) -> Result<Vec<u8>, Stop>
+    ensures ok { IfOk result (λ text. Says (H.files shelf.old) (OfFile question name.now) (Due text.items)) }
+    ensures err { IfErr result (IsStop (H.files shelf.old) (OfFile question name.now)
         (Rose (H.faults shelf.old) (H.faults shelf.new)) (Rose (H.misses shelf.old) (H.misses shelf.new))) }
     ensures same_files { H.files shelf.new ≡ H.files shelf.old }
     ensures faults_kept { H.faults shelf.old ≤ H.faults shelf.new }
     ensures misses_kept { H.misses shelf.old ≤ H.misses shelf.new }
 {
-    match bytes_of(alloc, shelf, 1, image) {
-        Ok(bytes) => verdict_on(alloc, &bytes),
+    match bytes_of(alloc, shelf, FIRST, name) {
+        Ok(bytes) => said_of(alloc, question, &bytes),
         Err(stop) => Err(stop),
     }
 }

@@ -16,7 +16,7 @@ use bk_trace::{Trace, TraceFault, read_trace};
 use std::alloc::Global;
 
 /// The number of the first file that the words name.
-const FIRST: u8 = 1;
+pub(crate) const FIRST: u8 = 1;
 /// The number of the second file that the words name.
 const SECOND: u8 = 2;
 

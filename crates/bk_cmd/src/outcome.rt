@@ -35,7 +35,7 @@ pub struct Outcome {
     pub status: u8,
     /// 1 or 2: the first or the second file that the words name, where the status is of a file.
     pub file: u8,
-    /// Where the fault of a file lies: the byte of an image, the line of a trace.
+    /// Where the fault of a file lies: the byte of an image, the line of a text.
     pub at: u64,
     /// The column of the fault in its line, and 0 in an image.
     pub column: u64,
@@ -89,7 +89,9 @@ pub(crate) enum Stop {
 fn is_limit(kind: u8) -> bool
     ensures { result ≡ is_limit kind }
 {
-    kind == bk_image::Kind::TooMany.code() || kind == bk_trace::Kind::TooMany.code()
+    kind == bk_image::Kind::TooMany.code()
+        || kind == bk_asm::Kind::TooMany.code()
+        || kind == bk_trace::Kind::TooMany.code()
 }
 
 /// The outcome of a command that was not begun, with this status of a file, or of none.

@@ -8,7 +8,7 @@ ghost use Rattle.bk_cmd.specs.Stops.{IsMissing};
 ghost use Rattle.bk_cmd.specs.Words.{command_of};
 ghost use Rattle.bk_cmd.specs.declared.outcome.Unread.TheVariants as unread;
 
-use crate::answers::{drawn, verify};
+use crate::answers::{answer_of, drawn};
 use crate::inputs::inputs_of;
 use crate::outcome::{
     ABSENT, MALFORMED, MEMORY, OK, Outcome, READ_FAULT, REFUSED, SPENT, Stop, TOO_LONG, USAGE,
@@ -23,12 +23,15 @@ use std::alloc::Global;
 /// Does what the words ask for, with the files of the shelf, and writes to the sink what is due:
 ///
 /// - `verify IMAGE`: `accepted` and a line's end, where the image is accepted (`docs/OBLIGATIONS.md`);
+/// - `asm TEXT`: the bytes of the image that the text spells (`docs/ASSEMBLY.md`);
+/// - `dis IMAGE`: the canonical text of the image;
+/// - `proto NAME`: the source of the program `ei`, `msi`, `mesi` or `moesif`;
 /// - `gen SEED CACHES SETS WAYS OPS`: the canonical text of the trace that is drawn from the seed (`docs/FILES.md`);
 /// - `replay serial IMAGE TRACE`: the report of the greedy run of the image over the trace;
 /// - `replay log IMAGE TRACE`: the log of that run, and then its report.
 ///
-/// The words are judged first. Then each file is read and checked, in their order; `verify` gives its
-/// verdict, and a replay makes its run; then comes the writing. What is met first is answered, by a status:
+/// The words are judged first. Then each file is read and checked, in their order; `verify` gives its verdict, and a
+/// replay makes its run; then comes the writing. What is met first is answered, by a status:
 ///
 /// - `OK`: the sink took all that is due, and a run is complete;
 /// - `MEMORY`: memory ran out, at any moment after the words;
@@ -38,7 +41,7 @@ use std::alloc::Global;
 /// - `ABSENT`: there is no such file;
 /// - `READ_FAULT`: a file could not be read;
 /// - `WRITE_FAULT`: the sink failed, and took `written` bytes of what is due;
-/// - `TOO_LONG`: a file has too many bytes, an image too many instructions, or a trace too many operations;
+/// - `TOO_LONG`: a file has too many bytes, an image or a text too many instructions, or a trace too many operations;
 /// - `SPENT`: the run ended and is not complete.
 pub fn run_plain<H: Shelf, K: Sink>(
     alloc: Global,
@@ -102,10 +105,11 @@ pub fn run_plain<H: Shelf, K: Sink>(
         return stopped(alloc, Stop::Usage);
     };
     match command {
-        Command::Verify { image } => match verify(alloc, shelf, image) {
+        Command::OfFile { question, name } => match answer_of(alloc, shelf, question, name) {
             Ok(text) => deliver(sink, &text, &[], Vec::new(alloc)),
             Err(stop) => stopped(alloc, stop),
         },
+        Command::Source { text } => deliver(sink, text, &[], Vec::new(alloc)),
         Command::Generate {
             seed,
             config,

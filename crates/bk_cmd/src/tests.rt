@@ -208,6 +208,10 @@ fn words_that_are_no_command(rt: HostRuntime) -> Result<(), Fail> {
         &["gen", "7", "258", "4", "2", "1"][..],
         &["gen", "7", "2", "4", "2", "10001"][..],
         &["gen", "7", "2", "4", "2", ""][..],
+        &["proto", "mesj"][..],
+        &["proto"][..],
+        &["asm"][..],
+        &["dis", "a.bk", "b.bk"][..],
     ];
     for line in lines {
         let mut shelf = shelf(alloc, &NOP, "", Vec::new(alloc))?;
@@ -418,6 +422,84 @@ fn files_without_bytes(rt: HostRuntime) -> Result<(), Fail> {
     assert_eq!(rt; numbers(&outcome), [READ_FAULT as u64, 1, 0, 0, 0, 0]);
     let (outcome, _sink) = verified(alloc, &Vec::from_elem(alloc, 0, 16_777_217)?)?;
     assert_eq!(rt; numbers(&outcome), [TOO_LONG as u64, 1, 0, 0, 0, 0]);
+    Ok(())
+}
+
+/// The outcome of a command on the one file `a.bk` of these bytes, over a sink that takes them whole, and what the sink then has.
+fn said(alloc: Global, words: &[&str], bytes: &[u8]) -> Result<(Outcome, MemSink), Fail> {
+    let mut shelf = shelf(alloc, bytes, "", Vec::new(alloc))?;
+    let mut sink = sink(alloc);
+    let outcome = run_plain(alloc, &words_of(alloc, words)?, &mut shelf, &mut sink);
+    Ok((outcome, sink))
+}
+
+#[test]
+fn assemblies(rt: HostRuntime) -> Result<(), Fail> {
+    let alloc = rt.alloc();
+    let asm = ["asm", "a.bk"];
+    let (outcome, sink) = said(alloc, &asm, b"nop\n")?;
+    assert_eq!(rt; numbers(&outcome), [OK as u64, 0, 0, 0, 0, 24]);
+    assert!(rt; sink.bytes() == NOP.as_slice());
+    // A text, and the line, the column and the kind of its fault.
+    let faults = [
+        ("bi x\n", 1, 4, 26),
+        ("; a", 1, 1, 29),
+        ("nop\n wfq rex", 2, 6, 22),
+    ];
+    for (text, line, column, kind) in faults {
+        let (outcome, sink) = said(alloc, &asm, text.as_bytes())?;
+        assert_eq!(rt;
+            numbers(&outcome),
+            [MALFORMED as u64, 1, line, column, kind, 0]
+        );
+        assert_eq!(rt; sink.bytes().len(), 0);
+    }
+    let mut long = String::new(alloc);
+    for _ in 0..257 {
+        long.push_str("nop\n")?;
+    }
+    let (outcome, _sink) = said(alloc, &asm, long.as_bytes())?;
+    assert_eq!(rt; numbers(&outcome), [TOO_LONG as u64, 1, 257, 1, 30, 0]);
+    assert!(rt; fault_line(&outcome).as_str() == "bedrock: too long file 1");
+    Ok(())
+}
+
+#[test]
+fn disassemblies(rt: HostRuntime) -> Result<(), Fail> {
+    let alloc = rt.alloc();
+    let (outcome, text) = said(alloc, &["dis", "a.bk"], &UNCACHED)?;
+    assert_eq!(rt; outcome.status, OK);
+    let beginning = "L000:\n  wfq resp,req\n  bk head Request L004\n";
+    assert!(rt; text.bytes().starts_with(beginning.as_bytes()));
+    let (outcome, sink) = said(alloc, &["dis", "a.bk"], b"BKUC")?;
+    assert_eq!(rt; numbers(&outcome), [MALFORMED as u64, 1, 4, 0, 11, 0]);
+    assert_eq!(rt; sink.bytes().len(), 0);
+    // The text of an image is a text of that image.
+    for image in [&UNCACHED[..], &UNCACHED_KNOWN[..], &MESI[..]] {
+        let (_outcome, text) = said(alloc, &["dis", "a.bk"], image)?;
+        let (outcome, again) = said(alloc, &["asm", "a.bk"], text.bytes())?;
+        assert_eq!(rt; outcome.status, OK);
+        assert!(rt; again.bytes() == image);
+    }
+    Ok(())
+}
+
+#[test]
+fn sources(rt: HostRuntime) -> Result<(), Fail> {
+    let alloc = rt.alloc();
+    let programs = [
+        ("ei", &EI[..]),
+        ("msi", &MSI[..]),
+        ("mesi", &MESI[..]),
+        ("moesif", &MOESIF[..]),
+    ];
+    for (name, image) in programs {
+        let (outcome, text) = said(alloc, &["proto", name], &[])?;
+        assert_eq!(rt; outcome.status, OK);
+        let (outcome, bytes) = said(alloc, &["asm", "a.bk"], text.bytes())?;
+        assert_eq!(rt; outcome.status, OK);
+        assert!(rt; bytes.bytes() == image);
+    }
     Ok(())
 }
 

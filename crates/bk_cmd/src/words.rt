@@ -1,12 +1,19 @@
 ghost use Rattle.std.specs.Prelude.{◌≡◌, Some, None, MatchOption, IfSome};
-ghost use Rattle.bk_cmd.specs.Words.{output_of, generate_in, verify_of, generate_of, replay_of, command_of};
+ghost use Rattle.bk_cmd.specs.Words.{output_of, generate_in, file_command, source_command, generate_of, replay_of, command_of};
 ghost use Rattle.bk_cmd.specs.Told.{told, HasFewOperations};
 
 use crate::numbers::{below, config_in};
 use bk_base::Config;
+use bk_proto::source;
 
 /// The first word of a verdict.
 const VERIFY: &str = "verify";
+/// The first word of an assembly.
+const ASSEMBLE: &str = "asm";
+/// The first word of a disassembly.
+const DISASSEMBLE: &str = "dis";
+/// The first word of a program's source.
+const SOURCE: &str = "proto";
 /// The first word of a drawn trace.
 const GENERATE: &str = "gen";
 /// One more than the greatest seed.
@@ -20,6 +27,17 @@ const SERIAL: &str = "serial";
 /// The second word of a replay that writes the log and the report.
 const LOG: &str = "log";
 
+/// What is asked of one file.
+#[derive(Clone, Copy, Debug, PartialEq, Eq)]
+pub(crate) enum Question {
+    /// The verdict on an image.
+    Verdict,
+    /// The image of a text.
+    Assembly,
+    /// The canonical text of an image.
+    Disassembly,
+}
+
 /// What a replay writes.
 #[derive(Clone, Copy, Debug, PartialEq, Eq)]
 pub(crate) enum Output {
@@ -32,9 +50,14 @@ pub(crate) enum Output {
 /// What a command line asks for, with the names of its files.
 #[derive(Clone, Copy)]
 pub(crate) enum Command<'a> {
-    /// `verify IMAGE`: the verdict on an image.
-    Verify {
-        image: &'a str,
+    /// `verify IMAGE`, `asm TEXT` and `dis IMAGE`: a question on one file.
+    OfFile {
+        question: Question,
+        name: &'a str,
+    },
+    /// `proto NAME`: the source of a program.
+    Source {
+        text: &'static [u8],
     },
     /// `gen SEED CACHES SETS WAYS OPS`: a trace of so many operations, at most 10,000, that is drawn from a seed.
     Generate {
@@ -89,15 +112,31 @@ fn generate_in<'a>(
     }
 }
 
-/// The words behind `verify`: an image.
-fn verify_of(words: &[String]) -> Option<Command<'_>>
-    ensures value { MatchOption result (verify_of words.now ≡ None) (λ command. verify_of words.now ≡ Some (told command)) }
+/// The words behind `verify`, `asm` and `dis`: a file.
+fn file_command(question: Question, words: &[String]) -> Option<Command<'_>>
+    ensures value { MatchOption result (file_command question words.now ≡ None)
+        (λ command. file_command question words.now ≡ Some (told command)) }
     ensures few { IfSome result HasFewOperations }
 {
     match words {
-        [image] => Some(Command::Verify {
-            image: image.as_str(),
+        [name] => Some(Command::OfFile {
+            question,
+            name: name.as_str(),
         }),
+        _ => None,
+    }
+}
+
+/// The words behind `proto`: the name of a program.
+fn source_command(words: &[String]) -> Option<Command<'_>>
+    ensures value { MatchOption result (source_command words.now ≡ None) (λ command. source_command words.now ≡ Some (told command)) }
+    ensures few { IfSome result HasFewOperations }
+{
+    match words {
+        [name] => match source(name.as_str()) {
+            Some(text) => Some(Command::Source { text }),
+            None => None,
+        },
         _ => None,
     }
 }
@@ -146,7 +185,16 @@ pub(crate) fn command_of(words: &[String]) -> Option<Command<'_>>
         return None;
     };
     if command.as_str() == VERIFY {
-        return verify_of(rest);
+        return file_command(Question::Verdict, rest);
+    }
+    if command.as_str() == ASSEMBLE {
+        return file_command(Question::Assembly, rest);
+    }
+    if command.as_str() == DISASSEMBLE {
+        return file_command(Question::Disassembly, rest);
+    }
+    if command.as_str() == SOURCE {
+        return source_command(rest);
     }
     if command.as_str() == GENERATE {
         return generate_of(rest);
