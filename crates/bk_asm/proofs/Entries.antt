@@ -1,6 +1,6 @@
 -- The fields of a know line, one after another.
 use Rattle.std.proofs.Common.{◌≡◌, ℕ, ◌^◌, refl, sym, ap, ◌∙◌, [], ◌∷◌, List}
-use Rattle.std.specs.Prelude.{Option, Some, None, Ok, Err, bit_or}
+use Rattle.std.specs.Prelude.{Option, Some, None, Err, bit_or}
 use Rattle.bk_know.specs.declared.sets.Sets.{Sets}
 use Rattle.bk_text.specs.Rows.{Marked}
 use Rattle.bk_asm.specs.declared.fault.Kind.TheVariants as kinds

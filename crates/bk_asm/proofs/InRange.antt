@@ -1,6 +1,5 @@
 -- The operands that a text may have are those of the table of instruction words.
-use Rattle.std.proofs.Common.{◌≡◌, ℕ, ◌<◌, ◌^◌, Bool, true, false, cond, ◌&&◌, ◌||◌, ◌==◌, Option, Some, None, Result, Ok, length, refl, sym, ap, ◌∙◌, inl, inr, arith}
-use Rattle.std.specs.Prelude.{nat_lt, nat_le}
+use Rattle.std.proofs.Common.{◌≡◌, ℕ, Bool, true, ◌||◌, ◌==◌, Some, None, Result, Ok, refl, sym, ap, ◌∙◌, inl, inr, arith}
 use Rattle.std.proofs.lemmas.Bool.Decides.{nat_tests}
 use Rattle.std.proofs.lemmas.Bool.{eqb-true}
 use Rattle.bk_isa.specs.declared.table.Allowed.{Allowed}
@@ -8,13 +7,13 @@ use Rattle.bk_isa.specs.declared.table.Allowed.TheVariants.{Zero, Range}
 use Rattle.bk_isa.specs.declared.table.Row.{Row}
 use Rattle.bk_isa.specs.declared.form.Form.{Form}
 use Rattle.bk_isa.specs.declared.fields.Fields.{Fields}
-use Rattle.bk_isa.specs.Fields.{fields_with, form_of, fields_of, pack, AreWide}
-use Rattle.bk_isa.specs.Table.{admits, first_fault, fault_at, fault_by, fault_in, row_of, register, flag, shift, any_number, target, choice, whose, holder, classes, tested, any_state, valid, clean, granted, left, received, value_set, set_limit}
+use Rattle.bk_isa.specs.Fields.{fields_with, fields_of, pack, AreWide}
+use Rattle.bk_isa.specs.Table.{admits, first_fault, fault_by, fault_in, row_of, register, flag, shift, any_number, target, choice, whose, holder, classes, tested, any_state, valid, clean, granted, left, received, set_limit}
 use Rattle.bk_isa.specs.declared.fault.WordFault.{WordFault}
 use Rattle.bk_isa.specs.Words.{IsInRange, encode}
 use Rattle.bk_isa.proofs.Forms.{fields_of-form_of}
 use Rattle.bk_text.proofs.Rows.{tested as test_of}
-use Rattle.bk_asm.specs.Names.{names_of, has_value, value_names}
+use Rattle.bk_asm.specs.Names.{names_of}
 use Rattle.bk_asm.specs.Operations.{shape, opcode}
 use Rattle.bk_asm.specs.Programs.{Statement, form_with}
 use Rattle.bk_asm.specs.Ranges.{is_value, slot_ok, last_ok, limit_of, IsReady}

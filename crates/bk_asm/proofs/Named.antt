@@ -1,11 +1,9 @@
 -- Names and the pieces of a word.
-use Rattle.std.proofs.Common.{◌≡◌, ℕ, Bool, true, false, cond, not, inl, inr, ◌&&◌, ◌||◌, ltb, ◌==◌, ◌<◌, ◌≤◌, ◌+◌, ◌^◌, List, [], ◌∷◌, length, take, drop, take_all, refl, sym, ap, ◌∙◌, arith, rules, tests}
+use Rattle.std.proofs.Common.{◌≡◌, ℕ, Bool, true, false, cond, not, inl, inr, ◌&&◌, ◌||◌, ◌==◌, ◌<◌, ◌≤◌, ◌+◌, ◌^◌, List, [], ◌∷◌, length, take, drop, take_all, refl, sym, ap, ◌∙◌, arith}
 use Rattle.std.specs.Prelude.{Option, Some, None, IfSome, nat_lt, bit_or, option_and_then}
-use Rattle.std.specs.Option.{option_map}
-use Rattle.std.specs.List.{slice_split, before_first, after_first, position_or_len, position}
+use Rattle.std.specs.List.{slice_split, before_first, after_first, position_or_len}
 use Rattle.std.specs.Str.{bytes_eq}
 use Rattle.std.proofs.lemmas.Bool.Decides.{nat_tests}
-use Rattle.std.proofs.lemmas.Grind.{common_steps}
 use Rattle.std.proofs.lemmas.List.Splits.{slice_split_first, slice_split_none, length-slice_split}
 use Rattle.std.proofs.lemmas.Nat.{or_lt, le_or_l, le_or_r, pow_pos}
 use Rattle.std.proofs.lemmas.Option.{option_and_then_some}

@@ -1,6 +1,6 @@
 -- Reading the lines of a text one after the other, and resolving labels one after the other, as loops do.
 use Rattle.std.proofs.Common.{◌≡◌, ℕ, ◌+◌, ◌≤◌, List, [], ◌∷◌, ◌++◌, length, drop, get_or, drop-cons, add-one, suc, ◌<◌, refl, sym, ap, ◌∙◌, append_assoc, arith}
-use Rattle.std.specs.Prelude.{Option, Some, None, Result, Ok, Err, nat_le, is_some, max}
+use Rattle.std.specs.Prelude.{Result, Ok, Err, nat_le, is_some, max}
 use Rattle.std.specs.Str.Lines.{lines}
 use Rattle.std.proofs.lemmas.List.{append-nil, drop_all}
 use Rattle.bk_asm.specs.declared.fault.AsmFault.TheVariants as errors
@@ -10,7 +10,7 @@ use Rattle.bk_asm.specs.Faults.{Bad, bad, fault_of, Fails}
 use Rattle.bk_asm.specs.declared.fault.AsmFault.{AsmFault}
 use Rattle.bk_asm.specs.Names.{Naming}
 use Rattle.bk_asm.specs.Programs.{Statement, LineParts}
-use Rattle.bk_asm.specs.Reading.{◌>>=◌, Draft, on_line, row_at, line_at, after, lines_at, form_at, forms_at, nothing_read, image_of, image_at}
+use Rattle.bk_asm.specs.Reading.{◌>>=◌, Draft, row_at, line_at, after, lines_at, form_at, forms_at, nothing_read, image_of, image_at}
 
 abbrev pub read_line : Draft → ℕ → List ℕ → Result LineParts At
 read_line d line text = line_at d.labels (nat_le 256 (length d.statements)) (is_some d.know) line (row_at text) (row_at text).words

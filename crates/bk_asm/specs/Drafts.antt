@@ -1,5 +1,5 @@
 -- What stays true of what was read so far.
-use Rattle.std.specs.Prelude.{◌≡◌, ℕ, ◌+◌, ◌≤◌, true, length, nat_lt, if◌then◌else◌}
+use Rattle.std.specs.Prelude.{◌≡◌, ◌+◌, ◌≤◌, true, length, nat_lt, if◌then◌else◌}
 use Rattle.std.specs.List.{list_all}
 use Rattle.bk_image.specs.Images.{are_lines}
 use Rattle.bk_asm.specs.Reading.{Draft}

@@ -1,9 +1,7 @@
 -- A program as it is read: instructions whose targets are labels, know lines and labels.
-use Rattle.std.specs.Prelude.{◌≡◌, ℕ, ◌<◌, ◌^◌, List, Option, None, Some}
-use Rattle.bk_isa.specs.declared.fields.Fields.{Fields}
+use Rattle.std.specs.Prelude.{ℕ, List, Option}
 use Rattle.bk_isa.specs.declared.form.Form.{Form}
 use Rattle.bk_isa.specs.Fields.{fields_with, form_of}
-use Rattle.bk_isa.specs.Words.{IsInRange}
 use Rattle.bk_know.specs.declared.sets.Sets.{Sets}
 use Rattle.bk_asm.specs.Operations.{opcode}
 use Rattle.bk_asm.specs.declared.operation.Operation.{Operation}

@@ -7,7 +7,7 @@ use Rattle.bk_isa.specs.declared.form.Form.{Form}
 use Rattle.bk_isa.specs.Fields.{fields_of}
 use Rattle.bk_know.specs.declared.sets.Sets.{Sets}
 use Rattle.bk_know.specs.Sets.{idle, held, subset, field}
-use Rattle.bk_image.specs.Images.{Parts, Line, known}
+use Rattle.bk_image.specs.Images.{Parts, known}
 use Rattle.bk_asm.specs.Names.{Naming, value_names, class_names, names_of}
 use Rattle.bk_asm.specs.Operations.{shape}
 use Rattle.bk_asm.specs.Mnemonics.{mnemonic, operation_of}

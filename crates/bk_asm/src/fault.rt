@@ -54,7 +54,7 @@ impl Kind {
 }
 
 /// What is wrong with a line, and in which column.
-#[derive(Clone, Copy, Debug, PartialEq, Eq)]
+#[derive(Clone, Copy)]
 pub(crate) struct At {
     pub column: u64,
     pub kind: Kind,

@@ -4,7 +4,7 @@ ghost use Rattle.std.specs.Option.{option_map};
 ghost use Rattle.bk_asm.specs.Names.{value_names, class_names, names_of, named, cut_at, joined, all_below};
 
 /// What a word may be the name of.
-#[derive(Clone, Copy, PartialEq, Eq)]
+#[derive(Clone, Copy)]
 pub(crate) enum Names {
     /// Registers.
     Register,

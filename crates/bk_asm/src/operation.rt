@@ -4,7 +4,7 @@ ghost use Rattle.bk_asm.specs.Operations.{shape, opcode, mnemonics, pushed, oper
 use crate::names::Names;
 
 /// An operation of the engine. Of `pushq` there is one for each word that may follow it.
-#[derive(Clone, Copy, PartialEq, Eq)]
+#[derive(Clone, Copy)]
 pub(crate) enum Operation {
     Nop,
     Add,
@@ -57,7 +57,7 @@ pub(crate) enum Operation {
 }
 
 /// What an operand that is a field a, b or c is written as.
-#[derive(Clone, Copy, PartialEq, Eq)]
+#[derive(Clone, Copy)]
 pub(crate) enum Slot {
     /// It isn't written, and is 0.
     Nothing,
@@ -72,7 +72,7 @@ pub(crate) enum Slot {
 }
 
 /// What the operand that is the 32-bit field is written as.
-#[derive(Clone, Copy, PartialEq, Eq)]
+#[derive(Clone, Copy)]
 pub(crate) enum Last {
     /// It isn't written, and is 0.
     Nothing,
@@ -85,7 +85,7 @@ pub(crate) enum Last {
 }
 
 /// The operands of an operation, in the order in which they are written.
-#[derive(Clone, Copy, PartialEq, Eq)]
+#[derive(Clone, Copy)]
 pub(crate) struct Shape {
     pub a: Slot,
     pub b: Slot,

@@ -29,11 +29,19 @@ fn sources_are_the_accepted_images(rt: HostRuntime) -> Result<(), Fail> {
         let image = assemble(rt.alloc(), text)?;
         assert_eq!(rt; image.instrs().len(), instrs, "{name}");
         assert_eq!(rt; image.knows().len(), knows, "{name}");
-        assert_eq!(rt; checksum(&write_image(rt.alloc(), &image)?), bytes, "{name}");
+        assert_eq!(rt;
+            checksum(&write_image(rt.alloc(), &image)?),
+            bytes,
+            "{name}"
+        );
         let written = disassemble(rt.alloc(), &image)?;
         assert_eq!(rt; checksum(&written), canonical, "{name}");
         let again = assemble(rt.alloc(), &written)?;
-        assert_eq!(rt; checksum(&write_image(rt.alloc(), &again)?), bytes, "{name}");
+        assert_eq!(rt;
+            checksum(&write_image(rt.alloc(), &again)?),
+            bytes,
+            "{name}"
+        );
         assert!(rt; check(&image).is_ok(), "{name}");
     }
     assert!(rt; source("mesj").is_none());

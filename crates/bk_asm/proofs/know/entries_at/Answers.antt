@@ -1,5 +1,5 @@
 use Rattle.std.proofs.Common.{sym, ap, ◌∙◌}
-use Rattle.std.specs.Prelude.{Ok, Err}
+use Rattle.std.specs.Prelude.{Err}
 use Rattle.bk_asm.specs.Reading.{entries_at, fault_behind, unless}
 use Rattle.bk_asm.proofs.Entries.{entries_on, entries_stop, entries_done}
 use Rattle.bk_asm.proofs.know.entries_at.Goals as goal

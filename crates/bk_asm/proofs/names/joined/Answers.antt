@@ -1,4 +1,4 @@
-use Rattle.std.proofs.Common.{map, sym, ◌∙◌, ap}
+use Rattle.std.proofs.Common.{map, sym, ◌∙◌}
 use Rattle.std.specs.Option.{option_map}
 use Rattle.bk_asm.proofs.Named.{joined_on, joined_none}
 use Rattle.bk_asm.proofs.names.joined.Goals as goal
