@@ -1,5 +1,5 @@
 -- Configurations and addresses as numbers. A block has 64 bytes, eight words of 8 bytes.
-use Rattle.std.specs.Prelude.{◌≡◌, ℕ, ◌*◌, ◌/◌, ◌%◌, ◌^◌, ◌<◌, Bool, ◌&&◌, ◌||◌, Option, Some, None, Result, Ok, Err, nat_lt, nat_le, ◌==◌, if◌then◌else◌, IsTrue}
+use Rattle.std.specs.Prelude.{◌≡◌, ℕ, ◌+◌, ◌*◌, ◌/◌, ◌%◌, ◌^◌, ◌<◌, Bool, ◌&&◌, ◌||◌, Option, Some, None, Result, Ok, Err, nat_lt, nat_le, ◌==◌, if◌then◌else◌, IsTrue}
 use Rattle.bk_base.specs.declared.config.BadConfig.{BadConfig}
 use Rattle.bk_base.specs.declared.config.BadConfig.TheVariants.{Caches, Sets, Ways}
 
@@ -56,3 +56,19 @@ set_of s block = block % s.sets
 
 abbrev pub tag_of : Shape → ℕ → ℕ
 tag_of s block = block / s.sets
+
+-- the way group of an address: its block's set
+abbrev pub group_of : Shape → ℕ → ℕ
+group_of s addr = set_of s (block_of addr)
+
+-- the tag of an address's block
+abbrev pub tag_at : Shape → ℕ → ℕ
+tag_at s addr = tag_of s (block_of addr)
+
+-- each tag is below this: blocks are below 2^34
+abbrev pub tag_limit : Shape → ℕ
+tag_limit s = 2 ^ 34 / s.sets
+
+-- the address of the first word of the block with this tag in a set
+abbrev pub address_in : Shape → ℕ → ℕ → ℕ
+address_in s set tag = (tag * s.sets + set) * 64

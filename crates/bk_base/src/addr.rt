@@ -1,5 +1,5 @@
 ghost use Rattle.std.specs.Prelude.{◌≡◌, ◌<◌, ◌%◌, ◌^◌};
-ghost use Rattle.bk_base.specs.Places.{addr_of, block_of, word_of, set_of, tag_of, block_start, IsAddr};
+ghost use Rattle.bk_base.specs.Places.{addr_of, block_of, word_of, set_of, tag_of, block_start, group_of, tag_at, tag_limit, address_in, IsAddr};
 
 use crate::config::Config;
 use std::marker::Model;
@@ -52,10 +52,23 @@ impl Addr {
 
     /// The address of the first word of the address's block.
     pub fn block_start(self) -> Addr
-        ensures { result ≡ block_start self }
+        ensures value { result ≡ block_start self }
+        ensures aligned { result % 64 ≡ 0 }
     {
         Addr {
             value: self.value / BLOCK_BYTES * BLOCK_BYTES,
+        }
+    }
+
+    /// The address of the first word of the block that has this tag in a set.
+    pub fn of_block(config: Config, set: u8, tag: u64) -> Addr
+        requires set { set < config.sets }
+        requires tag { tag < tag_limit config }
+        ensures value { result ≡ address_in config set tag }
+        ensures aligned { result % 64 ≡ 0 }
+    {
+        Addr {
+            value: (tag * config.sets as u64 + set as u64) * BLOCK_BYTES,
         }
     }
 }
@@ -90,4 +103,21 @@ pub fn tag_of(config: Config, block: u64) -> u64
     ensures { result ≡ tag_of config block }
 {
     block / config.sets as u64
+}
+
+/// The way group of an address: the set that its block belongs to, below the number of sets, so below 64.
+pub fn group_of(config: Config, addr: Addr) -> u8
+    ensures value { result ≡ group_of config addr }
+    ensures within { result < config.sets }
+    ensures small { result < 64 }
+{
+    set_of(config, block_of(addr))
+}
+
+/// What tells the block of an address from the others of its set.
+pub fn tag_at(config: Config, addr: Addr) -> u64
+    ensures value { result ≡ tag_at config addr }
+    ensures small { result < tag_limit config }
+{
+    tag_of(config, block_of(addr))
 }

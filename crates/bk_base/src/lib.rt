@@ -6,7 +6,7 @@ mod coh;
 mod config;
 mod op;
 
-pub use addr::{Addr, block_of, set_of, tag_of, word_of};
+pub use addr::{Addr, block_of, group_of, set_of, tag_at, tag_of, word_of};
 pub use coh::Coh;
 pub use config::{BadConfig, Config};
 pub use op::{Done, Op};

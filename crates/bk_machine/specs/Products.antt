@@ -1,7 +1,7 @@
 -- The product's addresses, operations and messages, as the machine speaks of them: an address is its way group, the block's tag in
 -- it and the word's place in the block.
 use Rattle.std.specs.Prelude.{ℕ, ◌≡◌, Bool, true, false, List, Option, Some, None, get_or}
-use Rattle.bk_base.specs.Places.{Shape, block_of, word_of, set_of, tag_of}
+use Rattle.bk_base.specs.Places.{Shape, word_of, group_of, tag_at}
 use Rattle.bk_base.specs.declared.op.Op.{Op as Operation}
 use Rattle.bk_base.specs.declared.op.Op.TheVariants as ops
 use Rattle.bk_base.specs.declared.op.Done.{Done as Completion}
@@ -11,13 +11,6 @@ use Rattle.bk_msg.specs.declared.row.Network.TheVariants as networks
 use Rattle.bk_msg.specs.Networks.{network_of}
 use Rattle.bk_machine.specs.Messages.{Op, Load, Store, UcLoad, UcStore, Evict, Request, Rd, Wr, UcRd, UcWr, EvictRequest, ToCache, Inv, StWb, StTr, Blk, StWake, UcBlk, UcDone, Done, FillMessage, Response, InvAck, CohAck, Wb, NullWb, ToMemory, Read, Write, WriteWord, Block}
 use Rattle.bk_machine.specs.Words.{Completed}
-
--- the way group of an address, its block's tag, and its word's place
-abbrev pub group_of : Shape → ℕ → ℕ
-group_of k addr = set_of k (block_of addr)
-
-abbrev pub tag_at : Shape → ℕ → ℕ
-tag_at k addr = tag_of k (block_of addr)
 
 -- the words of a block by their places
 abbrev pub words_of : List ℕ → ℕ → ℕ

@@ -6,3 +6,4 @@ pub mod Networks
 pub mod Reading
 pub mod Spelling
 pub mod Table
+pub mod Within

@@ -7,6 +7,7 @@ mod fault;
 mod feed;
 mod fields;
 mod kind;
+mod makes;
 mod message;
 mod row;
 mod table;

@@ -46,7 +46,7 @@ fn header_fits(layout: Layout, fields: &Fields) -> bool
 
 /// Eight numbers of 64 bits.
 #[tactic(auto, using(crate::proofs::Words::are_words))]
-fn are_words(words: &[u64]) -> bool
+pub(crate) fn are_words(words: &[u64]) -> bool
     ensures count { IsTrue result ↔ (length words.now ≡ 8) }
     ensures words { AllByRecursion IsWord words.now }
 {

@@ -5,7 +5,7 @@ use Rattle.bk_isa.specs.declared.form.Form.{Form}
 use Rattle.bk_engine.specs.declared.parts.Choice.{Choice}
 use Rattle.bk_engine.specs.Step.{stop_of}
 use Rattle.bk_base.specs.Places.{Shape}
-use Rattle.bk_system.specs.Counting.{all_below, is_nil}
+use Rattle.bk_base.specs.Counting.{all_below, is_nil}
 use Rattle.bk_system.specs.Runs.{is_quiet}
 use Rattle.bk_base.specs.declared.op.Op.{Op}
 use Rattle.bk_msg.specs.declared.row.Row.{Row}

@@ -1,7 +1,6 @@
 pub mod RowOne
 pub mod Words
 pub mod Queues
-pub mod Below
 pub mod Opening
 pub mod Busy
 pub mod EventRows

@@ -3,7 +3,7 @@ use Rattle.std.proofs.Common.{◌≡◌, ℕ, zero, suc, Bool, [], ◌++◌, ref
 use Rattle.std.specs.Prelude.{flat_map}
 use Rattle.bk_base.specs.Places.{Shape}
 use Rattle.bk_system.specs.declared.counts.Counts.{Counts}
-use Rattle.bk_system.specs.Counting.{join_below}
+use Rattle.bk_base.specs.Counting.{join_below}
 use Rattle.bk_system.specs.State.{State, empty_line}
 use Rattle.bk_system.specs.Report.{lines_text, report_text, done_text, events_text, messages_text, end_text}
 

@@ -14,7 +14,7 @@ use Rattle.std.specs.Borrow.{Bor}
 use Rattle.bk_msg.specs.declared.row.Row.{Row}
 use Rattle.bk_base.specs.Tables.{put}
 use Rattle.bk_system.specs.declared.channels.Channels.{Channels}
-use Rattle.bk_system.specs.Counting.{is_nil}
+use Rattle.bk_base.specs.Counting.{is_nil}
 use Rattle.bk_system.specs.Channels.{queue}
 
 -- f of the value at a place, or a default past the end

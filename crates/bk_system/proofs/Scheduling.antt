@@ -8,7 +8,7 @@ use Rattle.bk_system.specs.declared.event.Event.{Event}
 use Rattle.bk_system.specs.declared.event.Event.TheVariants.{Command, Fill, Memory}
 use Rattle.bk_system.specs.declared.event.Stepped.{Stepped}
 use Rattle.bk_system.specs.declared.event.Stepped.TheVariants.{Disabled, Ran}
-use Rattle.bk_system.specs.Counting.{first_below}
+use Rattle.bk_base.specs.Counting.{first_below}
 use Rattle.bk_system.specs.State.{State}
 use Rattle.bk_system.specs.Events.{Happening, row}
 use Rattle.bk_system.specs.Runs.{after, state_after_row, run_from}
@@ -16,7 +16,7 @@ use Rattle.bk_system.specs.Systems.{row_from}
 use Rattle.bk_system.specs.declared.counts.Counts.{Counts}
 use Rattle.bk_system.specs.Report.{count_row, counts_from}
 use Rattle.bk_system.specs.Greedy.{if_enabled, issue_of, engine_of, least_enabled, greedy_from}
-use Rattle.bk_system.proofs.Below.{first_below-never}
+use Rattle.bk_base.proofs.Below.{first_below-never}
 
 -- where nothing comes before the memory, its event is the least
 pub least-memory : (k : Shape) (program : List Form) (s : State) (lines : List (ℕ × Op)) → first_below k.caches (issue_of k program s lines) ≡ None → engine_of k program s 0 0 ≡ None → first_below k.caches (engine_of k program s 1) ≡ None

@@ -6,7 +6,7 @@ use Rattle.bk_base.specs.declared.op.Op.{Op}
 use Rattle.bk_isa.specs.declared.form.Form.{Form}
 use Rattle.bk_system.specs.declared.event.Event.{Event}
 use Rattle.bk_system.specs.declared.event.Event.TheVariants.{Issue, Command, Fill, Memory, Engine}
-use Rattle.bk_system.specs.Counting.{or_else, first_below}
+use Rattle.bk_base.specs.Counting.{or_else, first_below}
 use Rattle.bk_system.specs.State.{State, opening}
 use Rattle.bk_system.specs.Runs.{is_enabled, after, run, run_from, IsTightFrom, IsTight}
 use Rattle.bk_system.specs.Greedy.{if_enabled, next_operation, issue_of, choice_of, engine_of, least_enabled, with_next, greedy_from, greedy}

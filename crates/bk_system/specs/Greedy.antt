@@ -7,7 +7,7 @@ use Rattle.bk_engine.specs.declared.parts.Choice.{Choice}
 use Rattle.bk_trace.specs.Traces.{operations_of}
 use Rattle.bk_system.specs.declared.event.Event.{Event}
 use Rattle.bk_system.specs.declared.event.Event.TheVariants.{Issue, Command, Fill, Memory, Engine}
-use Rattle.bk_system.specs.Counting.{or_else, first_below}
+use Rattle.bk_base.specs.Counting.{or_else, first_below}
 use Rattle.bk_system.specs.State.{State, opening}
 use Rattle.bk_system.specs.Runs.{is_enabled, after, completed_by}
 

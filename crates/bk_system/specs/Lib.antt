@@ -1,4 +1,3 @@
-pub mod Counting
 pub mod State
 pub mod Events
 pub mod Runs

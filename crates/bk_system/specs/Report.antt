@@ -17,7 +17,7 @@ use Rattle.bk_trace.specs.Spelling.{hexadecimal, operation_text}
 use Rattle.bk_system.specs.declared.event.Event.{Event}
 use Rattle.bk_system.specs.declared.event.Event.TheVariants as events
 use Rattle.bk_system.specs.declared.counts.Counts.{Counts}
-use Rattle.bk_system.specs.Counting.{join_below}
+use Rattle.bk_base.specs.Counting.{join_below}
 use Rattle.bk_system.specs.State.{State, Line, opening}
 use Rattle.bk_system.specs.Events.{Happening, row}
 use Rattle.bk_system.specs.Runs.{after, run, IsComplete}

@@ -9,7 +9,7 @@ use Rattle.bk_engine.specs.Step.{names_class}
 use Rattle.bk_trace.specs.Traces.{operations_of}
 use Rattle.bk_system.specs.declared.event.Event.{Event}
 use Rattle.bk_system.specs.declared.event.Event.TheVariants.{Issue}
-use Rattle.bk_system.specs.Counting.{all_below, is_nil}
+use Rattle.bk_base.specs.Counting.{all_below, is_nil}
 use Rattle.bk_system.specs.State.{State, opening}
 use Rattle.bk_system.specs.Events.{Happening, row, is_wait}
 

@@ -10,7 +10,7 @@ use Rattle.bk_msg.specs.declared.row.Row.{Row}
 use Rattle.bk_engine.specs.declared.parts.Core.{Core}
 use Rattle.bk_engine.specs.Core.{new_core}
 use Rattle.bk_system.specs.declared.event.Group.{Group}
-use Rattle.bk_system.specs.Counting.{join_below}
+use Rattle.bk_base.specs.Counting.{join_below}
 
 -- an entry of a cache: the block's tag, its state and its eight words
 pub record Line : Type 0 where

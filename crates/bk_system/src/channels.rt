@@ -1,7 +1,7 @@
 ghost use Rattle.std.specs.Prelude.{◌≡◌, ◌≢◌, ◌<◌, ◌≤◌, ℕ, [], ◌∷◌, ◌++◌, IfOk, OnOk, OnErr, IsOkAnd, slice_get, vec_len, drop, length};
 ghost use Rattle.std.specs.Option.{option_copied};
 ghost use Rattle.bk_base.specs.Tables.{put};
-ghost use Rattle.bk_system.specs.Counting.{all_below, is_nil};
+ghost use Rattle.bk_base.specs.Counting.{all_below, is_nil};
 
 use bk_msg::Row;
 use std::alloc::{AllocError, Global};

@@ -1,6 +1,6 @@
 ghost use Rattle.std.specs.Prelude.{◌≡◌, ◌≤◌, ◌<◌, length};
 ghost use Rattle.std.specs.Option.{option_copied};
-ghost use Rattle.bk_system.specs.Counting.{first_below};
+ghost use Rattle.bk_base.specs.Counting.{first_below};
 ghost use Rattle.bk_system.specs.Greedy.{issue_of, engine_of, choice_of, if_enabled, least_enabled, next_operation};
 ghost use Rattle.bk_system.specs.Systems.{state_of};
 ghost use Rattle.bk_system.specs.declared.event.Event.TheVariants.{Command};

@@ -2,7 +2,7 @@ ghost use Rattle.std.specs.Prelude.{◌≡◌, ◌≤◌, ◌<◌, ℕ, false, [
 ghost use Rattle.bk_engine.specs.Groups.{bits};
 ghost use Rattle.bk_engine.specs.Step.{ComesFromBelow, core_after, pending_after};
 ghost use Rattle.bk_system.specs.Channels.{channel_count};
-ghost use Rattle.bk_system.specs.Counting.{all_below};
+ghost use Rattle.bk_base.specs.Counting.{all_below};
 ghost use Rattle.bk_system.specs.Kept.{AreCounts};
 
 use crate::bounds::{both, cache_count, has_cache, has_way, set_count};

@@ -1,6 +1,6 @@
 use Rattle.std.proofs.Common.{◌≡◌, None}
 use Rattle.bk_system.specs.declared.event.Event.TheVariants.{Command}
-use Rattle.bk_system.specs.Counting.{first_below}
+use Rattle.bk_base.specs.Counting.{first_below}
 use Rattle.bk_system.specs.Greedy.{if_enabled}
 use Rattle.bk_system.specs.Systems.{state_of}
 use Rattle.bk_system.proofs.greedy.first_command.Given as goal

@@ -1,7 +1,7 @@
 use Rattle.std.proofs.Common.{sym, arith}
 use Rattle.bk_system.specs.Greedy.{engine_of}
 use Rattle.bk_system.specs.Systems.{state_of}
-use Rattle.bk_system.proofs.Below.{first_below-found, first_below-more}
+use Rattle.bk_base.proofs.Below.{first_below-found, first_below-more}
 use Rattle.bk_system.proofs.greedy.first_engine.Goals as goal
 
 pub returns-in-Some : goal.returns-in-Some

@@ -1,7 +1,7 @@
 use Rattle.std.proofs.Common.{sym, arith}
 use Rattle.bk_system.specs.Greedy.{issue_of}
 use Rattle.bk_system.specs.Systems.{state_of}
-use Rattle.bk_system.proofs.Below.{first_below-found}
+use Rattle.bk_base.proofs.Below.{first_below-found}
 use Rattle.bk_system.proofs.greedy.first_issue.Goals as goal
 
 pub returns-in-Some : goal.returns-in-Some

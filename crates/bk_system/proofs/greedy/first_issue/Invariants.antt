@@ -1,5 +1,5 @@
 use Rattle.std.proofs.Common.{◌≡◌, None}
-use Rattle.bk_system.specs.Counting.{first_below}
+use Rattle.bk_base.specs.Counting.{first_below}
 use Rattle.bk_system.specs.Greedy.{issue_of}
 use Rattle.bk_system.specs.Systems.{state_of}
 use Rattle.bk_system.proofs.greedy.first_issue.Given as goal

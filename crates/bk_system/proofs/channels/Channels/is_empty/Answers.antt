@@ -1,8 +1,8 @@
 use Rattle.std.proofs.Common.{sym, ◌∙◌, arith, ◌<◌}
 use Rattle.std.specs.Vec.{vec_len}
-use Rattle.bk_system.specs.Counting.{is_nil}
+use Rattle.bk_base.specs.Counting.{is_nil}
 use Rattle.bk_system.specs.Channels.{queue}
-use Rattle.bk_system.proofs.Below.{all_below-fails, all_below-more}
+use Rattle.bk_base.proofs.Below.{all_below-fails, all_below-more}
 use Rattle.bk_system.proofs.Queues.{queue-nil}
 use Rattle.bk_system.proofs.channels.Channels.is_empty.Goals as goal
 

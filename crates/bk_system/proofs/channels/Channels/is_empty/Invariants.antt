@@ -1,5 +1,5 @@
 use Rattle.std.proofs.Common.{◌≡◌, true}
-use Rattle.bk_system.specs.Counting.{all_below, is_nil}
+use Rattle.bk_base.specs.Counting.{all_below, is_nil}
 use Rattle.bk_system.specs.Channels.{queue}
 use Rattle.bk_system.proofs.channels.Channels.is_empty.Given as goal
 

@@ -1,7 +1,7 @@
 use Rattle.std.proofs.Common.{◌<◌, ◌∙◌, sym, arith, length}
 use Rattle.std.specs.Prelude.{is_none}
 use Rattle.bk_system.specs.Kept.{busy_of}
-use Rattle.bk_system.proofs.Below.{all_below-fails, all_below-more}
+use Rattle.bk_base.proofs.Below.{all_below-fails, all_below-more}
 use Rattle.bk_system.proofs.Busy.{busy-idle}
 use Rattle.bk_system.proofs.system.System.all_idle.Goals as goal
 

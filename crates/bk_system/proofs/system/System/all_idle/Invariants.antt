@@ -1,6 +1,6 @@
 use Rattle.std.proofs.Common.{◌≡◌, true}
 use Rattle.std.specs.Prelude.{is_none}
-use Rattle.bk_system.specs.Counting.{all_below}
+use Rattle.bk_base.specs.Counting.{all_below}
 use Rattle.bk_system.specs.Kept.{busy_of}
 use Rattle.bk_system.proofs.system.System.all_idle.Given as goal
 

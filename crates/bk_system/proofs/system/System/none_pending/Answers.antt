@@ -1,7 +1,7 @@
 use Rattle.std.proofs.Common.{ap, sym, arith, ℕ}
 use Rattle.std.specs.Prelude.{not}
 use Rattle.bk_engine.specs.Groups.{bits}
-use Rattle.bk_system.proofs.Below.{all_below-fails, all_below-more}
+use Rattle.bk_base.proofs.Below.{all_below-fails, all_below-more}
 use Rattle.bk_system.proofs.system.System.none_pending.Goals as goal
 
 pub returns-then-self-group : goal.returns-then-self-group

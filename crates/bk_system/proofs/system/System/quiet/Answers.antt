@@ -1,8 +1,8 @@
 use Rattle.std.proofs.Common.{ℕ, ap, refl, ◌∙◌}
 use Rattle.bk_system.specs.Channels.{queue, channel_count}
-use Rattle.bk_system.specs.Counting.{all_below, is_nil}
+use Rattle.bk_base.specs.Counting.{all_below, is_nil}
 use Rattle.bk_system.specs.Systems.{state_of}
-use Rattle.bk_system.proofs.Below.{all_below-squares}
+use Rattle.bk_base.proofs.Below.{all_below-squares}
 use Rattle.bk_system.proofs.EventRows.{quiet-of}
 use Rattle.bk_system.proofs.system.System.quiet.Goals as goal
 

@@ -1,5 +1,5 @@
 -- The numbers below a count.
-use Rattle.std.specs.Prelude.{ℕ, zero, suc, Bool, true, false, ◌&&◌, Option, Some, None, List, [], ◌∷◌, ◌++◌}
+use Rattle.std.specs.Prelude.{ℕ, zero, suc, Bool, true, false, ◌&&◌, Option, Some, None, List, [], ◌∷◌, ◌++◌, if◌then◌else◌}
 
 -- whether a test passes at each number below n
 abbrev pub all_below : ℕ → (ℕ → Bool) → Bool
@@ -24,3 +24,7 @@ join_below (suc n) f = join_below n f ++ f n
 abbrev pub is_nil : {X : Type 0} → List X → Bool
 is_nil [] = true
 is_nil (x ∷ xs) = false
+
+-- the least number below n that passes a test
+abbrev pub least_below : ℕ → (ℕ → Bool) → Option ℕ
+least_below n test = first_below n (λ i. if test i then Some i else None)

@@ -1,7 +1,7 @@
 -- Tests and answers for the numbers below a count, one number after the other.
 use Rattle.std.proofs.Common.{◌≡◌, ℕ, zero, suc, ◌+◌, ◌<◌, Bool, true, false, Option, Some, None, refl, subst, inl, inr, arith, add-one}
 use Rattle.std.proofs.lemmas.Bool.{cases_eq, and_left, and_right}
-use Rattle.bk_system.specs.Counting.{all_below, first_below}
+use Rattle.bk_base.specs.Counting.{all_below, first_below}
 
 -- a test that fails at one number
 pub all_below-fails : (n i : ℕ) (test : ℕ → Bool) → i < n → test i ≡ false → all_below n test ≡ false

@@ -1,0 +1,35 @@
+-- The caches and ways that a message names are in the configuration.
+use Rattle.std.specs.Prelude.{ℕ, ◌<◌}
+use Rattle.bk_base.specs.Places.{Shape}
+use Rattle.bk_msg.specs.declared.row.Row.{Row}
+use Rattle.bk_msg.specs.declared.row.Row.TheVariants.{Rd, Wr, UcRd, UcWr, Evict, Inv, StWb, StTr, Blk, StWake, UcBlk, UcDone, Done, Fill, InvAck, CohAck, Wb, NullWb, Read, Write, WriteWord, Block}
+
+-- a cache of the configuration, and one of its ways
+pub record IsWay (k : Shape) (c w : ℕ) : Type 0 where
+  pub cache : c < k.caches
+  pub way : w < k.ways
+
+-- each cache that a message names is one of the configuration, and each way one of its ways
+abbrev pub IsWithin : Shape → Row → Type 0
+IsWithin k (Rd from _ way _) = IsWay k from way
+IsWithin k (Wr from _ way _) = IsWay k from way
+IsWithin k (UcRd from _ _) = from < k.caches
+IsWithin k (UcWr from _ _ _) = from < k.caches
+IsWithin k (Evict from _ way _) = IsWay k from way
+IsWithin k (Inv _ to _) = to < k.caches
+IsWithin k (StWb _ to _ _) = to < k.caches
+IsWithin k (StTr _ to _ peer peer_way _ _) = (to < k.caches) × IsWay k peer peer_way
+IsWithin k (Blk _ to way _ _ _) = IsWay k to way
+IsWithin k (StWake _ to way _ _) = IsWay k to way
+IsWithin k (UcBlk _ to _ _) = to < k.caches
+IsWithin k (UcDone _ to _) = to < k.caches
+IsWithin k (Done _ to _) = to < k.caches
+IsWithin k (Fill from to way _ _ _) = (from < k.caches) × IsWay k to way
+IsWithin k (InvAck from _ _) = from < k.caches
+IsWithin k (CohAck from _ _) = from < k.caches
+IsWithin k (Wb from _ _ _) = from < k.caches
+IsWithin k (NullWb from _ _) = from < k.caches
+IsWithin k (Read _ _ _) = Unit {0}
+IsWithin k (Write _ _ _ _) = Unit {0}
+IsWithin k (WriteWord _ _ _ _) = Unit {0}
+IsWithin k (Block _ _ _ _) = Unit {0}
