@@ -1,0 +1,4 @@
+pub mod Contents
+pub mod Directories
+pub mod Kept
+pub mod Summaries
