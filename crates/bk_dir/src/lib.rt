@@ -3,6 +3,7 @@
 
 mod directory;
 mod entry;
+mod summaries;
 
 pub use directory::Directory;
 pub use entry::{Asked, Entry, Summary};
