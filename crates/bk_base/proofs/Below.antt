@@ -64,7 +64,7 @@ first_below-none (suc n) f h i l =
 
 -- an answer is that of a number, and no less number has one
 pub first_below-some : {X : Type 0} (n : ℕ) (f : ℕ → Option X) (x : X) → first_below n f ≡ Some x
-  → (i : ℕ) × (i < n) × (f i ≡ Some x) × ((j : ℕ) → j < i → f j ≡ None)
+    → (i : ℕ) × (i < n) × (f i ≡ Some x) × ((j : ℕ) → j < i → f j ≡ None)
 first_below-some zero f x h = absurd (cc)
 first_below-some (suc n) f x h =
     elim (or_else-some (first_below n f) (f n) x h) [
@@ -98,4 +98,4 @@ least_below-some n test i h =
     let found = first_below-some n (λ k. if test k then Some k else None) i h in
     let chosen = chosen-some (test found.0) found.0 i found.2 in
     subst (λ k. (k < n) × (test k ≡ true) × ((j : ℕ) → j < k → test j ≡ false)) chosen.1
-      (found.1, chosen.0, λ j l. chosen-none (test j) j (found.3 j l))
+    (found.1, chosen.0, λ j l. chosen-none (test j) j (found.3 j l))

@@ -1,5 +1,5 @@
 -- A bit for each number below a count that passes a test.
-use Rattle.std.proofs.Common.{◌≡◌, inl, inr, ℕ, zero, suc, ◌+◌, ◌-◌, ◌*◌, ◌/◌, ◌%◌, ◌^◌, ◌<◌, Bool, true, false, cond, eqb, refl, ap, sym, ◌∙◌, subst, arith, lit<}
+use Rattle.std.proofs.Common.{◌≡◌, inl, inr, ℕ, zero, suc, ◌+◌, ◌-◌, ◌*◌, ◌/◌, ◌%◌, ◌^◌, ◌<◌, Bool, true, false, ap, sym, ◌∙◌, subst, arith, lit<}
 use Rattle.std.specs.Prelude.{◌==◌, if◌then◌else◌}
 use Rattle.std.proofs.Math.Nat.{pow-suc, two-pow-succ, add-mul-div_right, add-mul-mod_self_right}
 use Rattle.std.proofs.lemmas.Nat.{pow_pos, pow-add, div-mul-add}
@@ -40,7 +40,7 @@ bits-say (suc n) test c l =
     elim (cases_eq c n) [
       | inl same ↦ subst (λ k. has_bit (bits_below (suc n) test) k ≡ test k) (sym same) (top-bit (bits_below n test) n (test n) (bits-small n test))
       | inr differ ↦
-        let e : n ≡ suc (n - suc c) + c = omega arith in
-        ap (λ k. has_bit (bits_below n test + (if test n then 2 ^ k else 0)) c) e
-        ∙ low-bit (bits_below n test) c (n - suc c) (test n) ∙ bits-say n test c (omega arith)
+          let e : n ≡ suc (n - suc c) + c = omega arith in
+          ap (λ k. has_bit (bits_below n test + (if test n then 2 ^ k else 0)) c) e
+          ∙ low-bit (bits_below n test) c (n - suc c) (test n) ∙ bits-say n test c (omega arith)
     ]

@@ -1,12 +1,12 @@
 -- The lists of a directory, as the functions that they stand for.
-use Rattle.std.proofs.Common.{◌≡◌, ℕ, zero, suc, ◌+◌, ◌*◌, ◌/◌, ◌^◌, ◌<◌, ◌≤◌, List, Bool, true, false, cond, eqb, refl, ap, sym, ◌∙◌, subst, inl, inr, get_or, set, length, arith, get_or-set_other, get_or-set_same}
-use Rattle.std.specs.Prelude.{IsTrue, nat_lt, ◌&&◌, replicate, ◌||◌, ◌==◌}
+use Rattle.std.proofs.Common.{◌≡◌, ℕ, zero, suc, ◌/◌, ◌^◌, ◌<◌, ◌≤◌, List, Bool, false, cond, eqb, refl, sym, ◌∙◌, inl, inr, get_or, set, length, arith, get_or-set_other, get_or-set_same}
+use Rattle.std.specs.Prelude.{IsTrue, replicate}
 use Rattle.std.proofs.lemmas.Bool.{cases_eq}
 use Rattle.std.proofs.lemmas.Bool.Decides.{nat_tests}
-use Rattle.std.proofs.lemmas.List.{get_or_read_under, get_or-replicate, get_or_past}
+use Rattle.std.proofs.lemmas.List.{get_or_read_under}
 use mathlib.Core.Path.{fun_ext}
 use Rattle.bk_base.specs.Tables.{put}
-use Rattle.bk_base.specs.Places.{Shape, InProfile, is_small_count, is_set_count, tag_limit}
+use Rattle.bk_base.specs.Places.{Shape, InProfile, is_small_count, is_set_count}
 use Rattle.bk_dir.specs.declared.entry.Entry.{Entry}
 use Rattle.bk_dir.specs.Contents.{empty_entry}
 use Rattle.bk_dir.specs.Kept.{place_of, entries_of, bits_of, AreTags}
@@ -18,17 +18,17 @@ entries_of-at xs c s w lc lw = grind (arith, nat_tests)
 
 -- the same, for an item that the list has there
 pub entries_of-item : (xs : List Entry) (n c s w : ℕ) (x : Entry) → c < 8 → w < 8 → place_of c s w < n → n ≡ length xs → x ≡ get_or xs (place_of c s w) x
-  → x ≡ entries_of xs c s w
+    → x ≡ entries_of xs c s w
 entries_of-item xs n c s w x lc lw l e r = get_or_read_under xs (place_of c s w) n x empty_entry r l e ∙ sym (entries_of-at xs c s w lc lw)
 
 written-at : (xs : List Entry) (c s w : ℕ) (x : Entry) (c' s' w' : ℕ) → c < 8 → w < 8 → place_of c s w < length xs
-  → entries_of (set xs (place_of c s w) x) c' s' w'
-  ≡ cond (eqb c' c) (cond (eqb s' s) (cond (eqb w' w) x (entries_of xs c s w')) (entries_of xs c s' w')) (entries_of xs c' s' w')
+    → entries_of (set xs (place_of c s w) x) c' s' w'
+    ≡ cond (eqb c' c) (cond (eqb s' s) (cond (eqb w' w) x (entries_of xs c s w')) (entries_of xs c s' w')) (entries_of xs c' s' w')
 unfolding entries_of
 written-at xs c s w x c' s' w' lc lw l = grind (arith, nat_tests, get_or-set_other, get_or-set_same)
 
 written-way : (f : ℕ → ℕ → ℕ → Entry) (c s w : ℕ) (x : Entry) (c' s' w' : ℕ)
-  → cond (eqb c' c) (cond (eqb s' s) (cond (eqb w' w) x (f c s w')) (f c s' w')) (f c' s' w') ≡ put f c (put (f c) s (put (f c s) w x)) c' s' w'
+    → cond (eqb c' c) (cond (eqb s' s) (cond (eqb w' w) x (f c s w')) (f c s' w')) (f c' s' w') ≡ put f c (put (f c) s (put (f c s) w x)) c' s' w'
 unfolding put
 written-way f c s w x c' s' w' =
     elim (cases_eq c' c) [
@@ -38,7 +38,7 @@ written-way f c s w x c' s' w' =
 
 -- one entry of the list written is one entry of the function written: no other entry has its place
 pub entries_of-set : (xs : List Entry) (c s w : ℕ) (x : Entry) → c < 8 → w < 8 → place_of c s w < length xs
-  → entries_of (set xs (place_of c s w) x) ≡ put (entries_of xs) c (put (entries_of xs c) s (put (entries_of xs c s) w x))
+    → entries_of (set xs (place_of c s w) x) ≡ put (entries_of xs) c (put (entries_of xs c) s (put (entries_of xs c s) w x))
 entries_of-set xs c s w x lc lw l = fun_ext (λ c'. fun_ext (λ s'. fun_ext (λ w'. written-at xs c s w x c' s' w' lc lw l ∙ written-way (entries_of xs) c s w x c' s' w')))
 
 -- a list of equal items

@@ -1,21 +1,20 @@
 -- The laws of a summary, from those of the least number below a count.
-use Rattle.std.proofs.Common.{◌≡◌, ◌≢◌, ◌⊎◌, ◌↔◌, inl, inr, ℕ, zero, suc, ◌+◌, ◌-◌, ◌*◌, ◌/◌, ◌%◌, ◌^◌, ◌<◌, ◌≤◌, Bool, true, false, not, cond, eqb, Option, Some, None, refl, ap, sym, ◌∙◌, subst, arith}
-use Rattle.std.specs.Prelude.{◌&&◌, ◌==◌, if◌then◌else◌, MatchOption, is_some, unwrap_or}
-use Rattle.std.proofs.lemmas.Bool.{and_parts, and_from, and_cases, cases_eq, cases_Bool, eqb-true, eq-eqb, ne_eqb, not-true, both_ways, eqb-false}
-use Rattle.std.proofs.lemmas.Bool.Decides.{nat_tests}
+use Rattle.std.proofs.Common.{◌≡◌, ◌≢◌, inl, inr, ℕ, ◌<◌, true, false, not, eqb, Option, Some, None, refl, ap, sym, ◌∙◌, subst, arith}
+use Rattle.std.specs.Prelude.{◌&&◌, MatchOption, is_some, unwrap_or}
+use Rattle.std.proofs.lemmas.Bool.{and_parts, and_from, and_cases, cases_eq, eqb-true, eq-eqb, ne_eqb, not-true, both_ways, eqb-false}
 use Rattle.bk_base.specs.Places.{Shape}
 use Rattle.bk_base.specs.States.{is_readable, is_owner_like}
-use Rattle.bk_base.specs.Counting.{least_below, first_below}
+use Rattle.bk_base.specs.Counting.{least_below}
 use Rattle.bk_base.specs.declared.coh.Coh.{Coh}
-use Rattle.bk_base.specs.declared.coh.Coh.TheVariants.{I, S, E, F, M, O}
+use Rattle.bk_base.specs.declared.coh.Coh.TheVariants.{I, S}
 use Rattle.bk_base.proofs.Below.{least_below-none, least_below-some, first_below-none, first_below-some}
 use Rattle.bk_dir.proofs.Bits.{bits-small, bits-say}
 use Rattle.bk_dir.specs.declared.entry.Entry.{Entry}
 use Rattle.bk_dir.specs.declared.entry.Asked.{Asked}
 use Rattle.bk_dir.specs.declared.entry.Summary.{Summary}
 use Rattle.bk_dir.specs.Contents.{Contents}
-use Rattle.bk_dir.specs.Summaries.{holds, is_shared, state_at, found, owner_way, shares, with_cache, owner_at, owner, owner_state, is_other, bits_below, has_bit, victim_of, summary}
-use Rattle.bk_dir.specs.Laws.{Holds, AnswersFor, Shares, IsLeastHolder, NoHolder, FoundSays, OwnIsThere, OwnIsNot, OwnSays, IsOwner, NoOwner, OwnerSays, IsOther, OthersSay, HasToLeave, VictimSays}
+use Rattle.bk_dir.specs.Summaries.{holds, is_shared, state_at, found, owner_way, shares, with_cache, owner_at, owner, owner_state, is_other, has_bit, summary}
+use Rattle.bk_dir.specs.Laws.{Holds, AnswersFor, Shares, IsLeastHolder, FoundSays, OwnSays, IsOwner, NoOwner, OwnerSays, IsOther, OthersSay, VictimSays}
 
 -- THE TESTS of an entry, as facts
 
@@ -63,7 +62,7 @@ pub found-law : (k : Shape) (d : Contents) (c s tag : ℕ) → FoundSays k d c s
 found-law k d c s tag = found-says k d c s tag (found k d c s tag) refl
 
 own-says : (k : Shape) (d : Contents) (asked : Asked) (r : Summary) (answer : Option ℕ) → found k d asked.cache asked.set asked.tag ≡ answer
-  → r.own ≡ state_at d asked.cache asked.set answer → r.own_way ≡ unwrap_or answer 0 → OwnSays k d asked r
+    → r.own ≡ state_at d asked.cache asked.set answer → r.own_way ≡ unwrap_or answer 0 → OwnSays k d asked r
 own-says k d asked r None e state way = inr (record { none = found-says k d asked.cache asked.set asked.tag None e; way = way; state = state })
 own-says k d asked r (Some w) e state way = inl (record {
   way = subst (λ v. IsLeastHolder k d asked.cache asked.set asked.tag v) (sym way) (found-says k d asked.cache asked.set asked.tag (Some w) e);
@@ -77,7 +76,7 @@ own-law k d asked = own-says k d asked (summary k d asked) (found k d asked.cach
 
 -- a cache other than the asker is the owner by its least way that answers for the block
 owner_at-other : (k : Shape) (d : Contents) (asked : Asked) (c : ℕ) → c ≢ asked.cache
-  → owner_at k d asked c ≡ with_cache c (owner_way k d c asked.set asked.tag)
+    → owner_at k d asked c ≡ with_cache c (owner_way k d c asked.set asked.tag)
 owner_at-other k d asked c differ = rw (ne_eqb c asked.cache differ) refl
 
 owner_at-asker : (k : Shape) (d : Contents) (asked : Asked) (c : ℕ) → c ≡ asked.cache → owner_at k d asked c ≡ None
@@ -96,13 +95,13 @@ no-answer k d c s tag e w l =
     answers-not (d.entries c s w) tag (least_below-none k.ways (λ v. holds (d.entries c s v) tag && is_owner_like (d.entries c s v).state) e w l)
 
 no-owner : (k : Shape) (d : Contents) (asked : Asked) (n : ℕ) → ((c : ℕ) → c < n → owner_at k d asked c ≡ None)
-  → (c w : ℕ) → c < n → c ≢ asked.cache → w < k.ways → ¬ AnswersFor (d.entries c asked.set w) asked.tag
+    → (c w : ℕ) → c < n → c ≢ asked.cache → w < k.ways → ¬ AnswersFor (d.entries c asked.set w) asked.tag
 no-owner k d asked n none c w l differ =
     no-answer k d c asked.set asked.tag
-      (with_cache-none c (owner_way k d c asked.set asked.tag) (sym (owner_at-other k d asked c differ) ∙ none c l)) w
+    (with_cache-none c (owner_way k d c asked.set asked.tag) (sym (owner_at-other k d asked c differ) ∙ none c l)) w
 
 the-owner : (k : Shape) (d : Contents) (asked : Asked) (c w : ℕ) → c < k.caches → c ≢ asked.cache → owner_way k d c asked.set asked.tag ≡ Some w
-  → ((e : ℕ) → e < c → owner_at k d asked e ≡ None) → IsOwner k d asked c w
+    → ((e : ℕ) → e < c → owner_at k d asked e ≡ None) → IsOwner k d asked c w
 the-owner k d asked c w l differ e before =
     let least = least_below-some k.ways (λ v. holds (d.entries c asked.set v) asked.tag && is_owner_like (d.entries c asked.set v).state) w e in
     record {
@@ -115,17 +114,17 @@ the-owner k d asked c w l differ e before =
     }
 
 owner-found : (k : Shape) (d : Contents) (asked : Asked) (at : ℕ × ℕ) (c : ℕ) → c < k.caches → owner_at k d asked c ≡ Some at
-  → ((e : ℕ) → e < c → owner_at k d asked e ≡ None) → IsOwner k d asked at.0 at.1
+    → ((e : ℕ) → e < c → owner_at k d asked e ≡ None) → IsOwner k d asked at.0 at.1
 owner-found k d asked at c l e before =
     elim (cases_eq c asked.cache) [
       | inl same ↦ absurd (let none = owner_at-asker k d asked c same in cc)
       | inr differ ↦
-        let parts = with_cache-some c (owner_way k d c asked.set asked.tag) at (sym (owner_at-other k d asked c differ) ∙ e) in
-        subst (λ o. IsOwner k d asked o at.1) parts.0 (the-owner k d asked c at.1 l differ parts.1 before)
+          let parts = with_cache-some c (owner_way k d c asked.set asked.tag) at (sym (owner_at-other k d asked c differ) ∙ e) in
+          subst (λ o. IsOwner k d asked o at.1) parts.0 (the-owner k d asked c at.1 l differ parts.1 before)
     ]
 
 owner-says : (k : Shape) (d : Contents) (asked : Asked) (answer : Option (ℕ × ℕ)) → owner k d asked ≡ answer
-  → MatchOption answer (NoOwner k d asked × (owner_state d asked.set answer ≡ I))
+    → MatchOption answer (NoOwner k d asked × (owner_state d asked.set answer ≡ I))
     (λ at. IsOwner k d asked at.0 at.1 × (owner_state d asked.set answer ≡ (d.entries at.0 asked.set at.1).state))
 owner-says k d asked None e = (no-owner k d asked k.caches (first_below-none k.caches (owner_at k d asked) e), refl)
 owner-says k d asked (Some at) e =
@@ -138,15 +137,15 @@ owner-law k d asked = owner-says k d asked (owner k d asked) refl
 -- OTHERS
 
 shares-at : (k : Shape) (d : Contents) (c s tag w : ℕ) → w < k.ways → Shares (d.entries c s w) tag → (answer : Option ℕ)
-  → least_below k.ways (λ v. holds (d.entries c s v) tag && is_shared (d.entries c s v).state) ≡ answer → is_some answer ≡ true
+    → least_below k.ways (λ v. holds (d.entries c s v) tag && is_shared (d.entries c s v).state) ≡ answer → is_some answer ≡ true
 shares-at k d c s tag w l p None e =
     absurd (both_ways (holds (d.entries c s w) tag && is_shared (d.entries c s w).state)
-      (least_below-none k.ways (λ v. holds (d.entries c s v) tag && is_shared (d.entries c s v).state) e w l) (shares-made (d.entries c s w) tag p))
+    (least_below-none k.ways (λ v. holds (d.entries c s v) tag && is_shared (d.entries c s v).state) e w l) (shares-made (d.entries c s w) tag p))
 shares-at k d c s tag w l p (Some v) e = refl
 
 sharer : (k : Shape) (d : Contents) (c s tag : ℕ) (answer : Option ℕ)
-  → least_below k.ways (λ v. holds (d.entries c s v) tag && is_shared (d.entries c s v).state) ≡ answer → is_some answer ≡ true
-  → (w : ℕ) × (w < k.ways) × Shares (d.entries c s w) tag
+    → least_below k.ways (λ v. holds (d.entries c s v) tag && is_shared (d.entries c s v).state) ≡ answer → is_some answer ≡ true
+    → (w : ℕ) × (w < k.ways) × Shares (d.entries c s w) tag
 sharer k d c s tag None e h = absurd (cc)
 sharer k d c s tag (Some w) e h =
     let least = least_below-some k.ways (λ v. holds (d.entries c s v) tag && is_shared (d.entries c s v).state) w e in
@@ -161,8 +160,8 @@ is_other-says k d asked c h =
 is_other-made : (k : Shape) (d : Contents) (asked : Asked) (c : ℕ) → IsOther k d asked c → is_other k d asked c ≡ true
 is_other-made k d asked c p =
     and_from (not (eqb c asked.cache)) (shares k d c asked.set asked.tag) (ap not (ne_eqb c asked.cache p.is_other))
-      (shares-at k d c asked.set asked.tag p.way p.within p.shares
-        (least_below k.ways (λ v. holds (d.entries c asked.set v) asked.tag && is_shared (d.entries c asked.set v).state)) refl)
+    (shares-at k d c asked.set asked.tag p.way p.within p.shares
+    (least_below k.ways (λ v. holds (d.entries c asked.set v) asked.tag && is_shared (d.entries c asked.set v).state)) refl)
 
 pub bits-law : (k : Shape) (d : Contents) (asked : Asked) (c : ℕ) → c < k.caches → has_bit (summary k d asked).others c ≡ is_other k d asked c
 bits-law k d asked c l = bits-say k.caches (is_other k d asked) c l

@@ -3,7 +3,6 @@
 use Rattle.std.specs.Prelude.{◌≡◌, ◌≢◌, ◌↔◌, ◌⊎◌, ℕ, ◌<◌, ◌^◌, true, Option, MatchOption}
 use Rattle.bk_base.specs.Places.{Shape}
 use Rattle.bk_base.specs.States.{is_readable, is_owner_like}
-use Rattle.bk_base.specs.declared.coh.Coh.{Coh}
 use Rattle.bk_base.specs.declared.coh.Coh.TheVariants.{I, S}
 use Rattle.bk_dir.specs.declared.entry.Entry.{Entry}
 use Rattle.bk_dir.specs.declared.entry.Asked.{Asked}
@@ -69,7 +68,7 @@ NoOwner k d asked = (c w : ℕ) → c < k.caches → c ≢ asked.cache → w < k
 abbrev pub OwnerSays : Shape → Contents → Asked → Summary → Type 0
 OwnerSays k d asked r =
     MatchOption r.owner (NoOwner k d asked × (r.owner_state ≡ I))
-      (λ at. IsOwner k d asked at.0 at.1 × (r.owner_state ≡ (d.entries at.0 asked.set at.1).state))
+    (λ at. IsOwner k d asked at.0 at.1 × (r.owner_state ≡ (d.entries at.0 asked.set at.1).state))
 
 -- OTHERS: a bit for each cache other than the asker with an entry S of the block, and no bit but these
 

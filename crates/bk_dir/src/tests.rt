@@ -1,3 +1,5 @@
+ghost use Rattle.std.specs.Prelude.{◌≡◌};
+
 use crate::directory::Directory;
 use crate::entry::{Asked, Entry, Summary};
 use bk_base::{Coh, Config};

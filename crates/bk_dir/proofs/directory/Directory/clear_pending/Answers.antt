@@ -1,5 +1,4 @@
-use Rattle.std.proofs.Common.{◌≡◌, ◌<◌, List, Bool, false, length, ap, arith}
-use Rattle.bk_dir.specs.Contents.{Contents}
+use Rattle.std.proofs.Common.{◌<◌, false, length, ap, arith}
 use Rattle.bk_dir.specs.Kept.{entries_of}
 use Rattle.bk_dir.proofs.Kept.{bits_of-set}
 use Rattle.bk_dir.proofs.directory.Directory.clear_pending.Goals as goal

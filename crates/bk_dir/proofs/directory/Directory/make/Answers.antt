@@ -1,6 +1,5 @@
 use Rattle.std.proofs.Common.{ap, ◌∙◌, subst, sym, ◌*◌, List}
 use Rattle.bk_base.specs.Places.{InProfile}
-use Rattle.bk_dir.specs.Contents.{Contents}
 use Rattle.bk_dir.specs.Kept.{entries_of, bits_of, AreTags}
 use Rattle.bk_dir.specs.declared.entry.Entry.{Entry}
 use Rattle.bk_dir.proofs.Kept.{entries_of-same, bits_of-same, tags-same, few_caches, few_ways}
@@ -15,7 +14,7 @@ invariant_of-result-clause-few_ways c = few_ways c.args.config (subst InProfile 
 pub invariant_of-result-clause-tags : goal.invariant_of-result-clause-tags
 invariant_of-result-clause-tags c =
     subst (λ (xs : List Entry). AreTags c.args.config xs) (sym (c.in_ok-entries.ensures.items_if_clones_equal (λ y same. same)))
-      (tags-same c.args.config (c.config.inside.sets * 64) (subst InProfile c.config.view_is c.config.invariant))
+    (tags-same c.args.config (c.config.inside.sets * 64) (subst InProfile c.config.view_is c.config.invariant))
 
 pub returns-clause-state : goal.returns-clause-state
 returns-clause-state c =
