@@ -1,6 +1,5 @@
 -- The counts of a report grow by at most one with each event and with each message.
-use Rattle.std.proofs.Common.{ℕ, ◌+◌, ◌≤◌, arith}
-use Rattle.std.specs.Prelude.{Option, Some, None, option_to_list}
+use Rattle.std.proofs.Common.{◌≡◌, ℕ, suc, ◌+◌, ◌<◌, ◌≤◌, List, ◌∷◌, length, get_or, drop, drop-cons, add-one, ap, sym, ◌∙◌, arith}
 use Rattle.bk_msg.specs.declared.row.Row.{Row}
 use Rattle.bk_msg.specs.declared.row.Network.{Network}
 use Rattle.bk_msg.specs.declared.row.Network.TheVariants as networks
@@ -35,7 +34,8 @@ at_most_message e m counts networks.Response most = grind arith
 at_most_message e m counts networks.Memout most = grind arith
 at_most_message e m counts networks.Memin most = grind arith
 
--- at most one more message
-pub at_most_sent : (e m : ℕ) (counts : Counts) (sent : Option Row) → IsAtMost e m counts → IsAtMost e (m + 1) (count_sent counts (option_to_list sent))
-at_most_sent e m counts None most = grind arith
-at_most_sent e m counts (Some row) most = at_most_message e m counts (network_of row) most
+-- one message of a list is counted, and then those after it
+pub count_sent-next : (messages : List Row) (i : ℕ) (m : Row) (n total : Counts) → i < length messages → m ≡ get_or messages i m → count_sent n (drop i messages) ≡ total → count_sent (count_network n (network_of m)) (drop (i + 1) messages) ≡ total
+count_sent-next messages i m n total l e so_far =
+    let here : drop i messages ≡ m ∷ drop (i + 1) messages = rw (add-one) (drop-cons messages i m l ∙ ap (λ (x : Row). x ∷ drop (suc i) messages) (sym e)) in
+    ap (count_sent n) (sym here) ∙ so_far

@@ -1,6 +1,6 @@
 -- What is known at the end of a run of the greedy schedule, and of a report.
-use Rattle.std.proofs.Common.{◌≡◌, ℕ, ◌<◌, ◌≤◌, ◌↔◌, List, ◌++◌, Bool, Option, Some, None, refl, ap, sym, subst, ◌∙◌, inl, inr, length, arith}
-use Rattle.std.specs.Prelude.{IsTrue, flat_map}
+use Rattle.std.proofs.Common.{◌≡◌, ℕ, ◌<◌, ◌≤◌, ◌↔◌, List, Bool, Option, Some, None, refl, ap, sym, subst, ◌∙◌, inl, inr, length, arith}
+use Rattle.std.specs.Prelude.{IsTrue, IsSome, option_map}
 use Rattle.std.proofs.lemmas.Bool.{cases_eq}
 use Rattle.bk_base.specs.Places.{Shape}
 use Rattle.bk_base.specs.declared.op.Op.{Op}
@@ -8,16 +8,17 @@ use Rattle.bk_base.specs.declared.op.Done.{Done}
 use Rattle.bk_isa.specs.declared.form.Form.{Form}
 use Rattle.bk_system.specs.declared.event.Event.{Event}
 use Rattle.bk_system.specs.declared.counts.Counts.{Counts}
-use Rattle.bk_system.specs.State.{State, empty_line}
+use Rattle.bk_lce.specs.declared.line.WayView.{WayView}
+use Rattle.bk_base.specs.Counting.{or_else, first_below}
+use Rattle.bk_system.specs.State.{State}
 use Rattle.bk_system.specs.Runs.{run, is_rested, IsComplete}
-use Rattle.bk_system.specs.Greedy.{greedy, least_enabled}
+use Rattle.bk_system.specs.Greedy.{ready, issue_with, least_other, least_enabled, IsLeast, IsEnd, IsGreedy}
 use Rattle.bk_system.specs.Serial.{IsGreedyRun, IsEnded, IsSpent}
-use Rattle.bk_system.specs.Report.{IsReport, counts_of, done_text, events_text, messages_text, end_text}
+use Rattle.bk_system.specs.Report.{IsReport, counts_of, report_text}
 use Rattle.bk_system.specs.Whole.{IsDone}
 use Rattle.bk_system.proofs.Prefixes.{complete-from}
-use Rattle.bk_system.proofs.Tight.{greedy-tight, greedy-length, greedy-whole}
+use Rattle.bk_system.proofs.Tight.{greedy-tight}
 use Rattle.bk_system.proofs.InOrder.{greedy-in_order}
-use Rattle.bk_system.proofs.Lines.{report_text-empty}
 
 -- whether the trace is done, told of the system that made the events
 pub told-from : (k q : Shape) (program : List Form) (lines : List (ℕ × Op)) (events given : List Event) (history : List Done) (s : State) (rested b : Bool) → given ≡ events → q ≡ k → s ≡ run k program events → history ≡ s.history → rested ≡ is_rested q program s
@@ -26,45 +27,55 @@ told-from k q program lines events given history s rested b g c e h r done =
     complete-from k program lines events history rested b (h ∙ ap (λ (x : State). x.history) e) (r ∙ ap (λ (z : Shape). is_rested z program s) c ∙ ap (is_rested k program) e)
     (subst (λ (es : List Event). IsTrue b ↔ IsDone k lines es history rested) g done)
 
-pub made-run : (k : Shape) (program : List Form) (lines : List (ℕ × Op)) (budget : ℕ) (events : List Event) (b : Bool) → events ≡ greedy k program lines budget → (IsTrue b ↔ IsComplete k program lines events) → IsGreedyRun k program lines budget events b
-made-run k program lines budget events b e told = record {
-  greedy = e;
-  tight = rw e (greedy-tight k program lines budget);
-  in_order = rw e (greedy-in_order k program lines budget);
+pub made-run : (policy : List WayView → ℕ → Type 0) (k : Shape) (program : List Form) (lines : List (ℕ × Op)) (budget : ℕ) (events : List Event) (b : Bool) → IsGreedy policy k program lines events → length events ≤ budget
+    → (IsTrue b ↔ IsComplete k program lines events) → IsGreedyRun policy k program lines budget events b
+made-run policy k program lines budget events b greedy few told = record {
+  greedy = greedy;
+  few = few;
+  tight = greedy-tight policy k program lines events greedy;
+  in_order = greedy-in_order policy k program lines events greedy;
   told = told;
 }
 
--- the next event, told of the system that made the events
-next-from : (k q : Shape) (program : List Form) (lines : List (ℕ × Op)) (events : List Event) (s : State) (o : Option Event) → q ≡ k → s ≡ run k program events → o ≡ least_enabled q program s lines → least_enabled k program (run k program events) lines ≡ o
-next-from k q program lines events s o c e h = ap (λ (x : State). least_enabled k program x lines) (sym e) ∙ ap (λ (z : Shape). least_enabled z program s lines) (sym c) ∙ sym h
+-- an event that is the least with one way is no end: whether there is one doesn't hang on the way
+least-some : (k : Shape) (program : List Form) (s : State) (lines : List (ℕ × Op)) (way : ℕ) (event : Event) → least_enabled k program s lines way ≡ Some event → IsSome (least_enabled k program s lines 0)
+least-some k program s lines way event h = go (first_below k.caches (ready k program s lines)) (least_other k program s) h
+  where
+    go : (o : Option (ℕ × Op)) (later : Option Event) → or_else (option_map (issue_with way) o) later ≡ Some event → IsSome (or_else (option_map (issue_with 0) o) later)
+    go (Some at) later e = refl
+    go None later e = rw e refl
 
-pub made-ended : (k q : Shape) (program : List Form) (lines : List (ℕ × Op)) (budget : ℕ) (events : List Event) (s : State) (b : Bool) → events ≡ greedy k program lines budget → (IsTrue b ↔ IsComplete k program lines events)
-    → q ≡ k → s ≡ run k program events → None ≡ least_enabled q program s lines → IsEnded k program lines budget events b
-made-ended k q program lines budget events s b e told c h none = record {
-  made = made-run k program lines budget events b e told;
-  ended = next-from k q program lines events s None c h none;
+-- the end of a run, told of the hardware that made the events
+pub made-ended : (policy : List WayView → ℕ → Type 0) (k q : Shape) (program : List Form) (lines : List (ℕ × Op)) (budget : ℕ) (events : List Event) (s : State) (b : Bool) → IsGreedyRun policy k program lines budget events b
+    → q ≡ k → s ≡ run k program events → IsEnd q program s lines → IsEnded policy k program lines budget events b
+made-ended policy k q program lines budget events s b made c h none = record {
+  made = made;
+  ended = subst (λ (x : State). IsEnd k program x lines) h (subst (λ (z : Shape). IsEnd z program s lines) c none);
 }
 
-pub made-spent : (k q : Shape) (program : List Form) (lines : List (ℕ × Op)) (budget : ℕ) (events : List Event) (s : State) (b : Bool) (event : Event) → events ≡ greedy k program lines budget → (IsTrue b ↔ IsComplete k program lines events)
-    → q ≡ k → s ≡ run k program events → Some event ≡ least_enabled q program s lines → IsSpent k program lines budget events b
-made-spent k q program lines budget events s b event e told c h some =
-    let next : least_enabled k program (run k program events) lines ≡ Some event = next-from k q program lines events s (Some event) c h some in
-    let few : length events ≤ budget = rw e (greedy-length k program lines budget) in
+-- one more event is enabled: then the budget is used up, since a shorter run came to its end
+pub made-spent : (policy : List WayView → ℕ → Type 0) (k q : Shape) (program : List Form) (lines : List (ℕ × Op)) (budget : ℕ) (events : List Event) (s : State) (b : Bool) (event : Event) → IsGreedyRun policy k program lines budget events b
+    → (length events < budget → IsEnd k program s lines) → q ≡ k → s ≡ run k program events → IsLeast policy q program s lines event → IsSpent policy k program lines budget events b
+made-spent policy k q program lines budget events s b event made whole c h least =
+    let here : IsLeast policy k program s lines event = subst (λ (z : Shape). IsLeast policy z program s lines event) c least in
+    let some : IsSome (least_enabled k program s lines 0) = least-some k program s lines here.way event here.least in
     record {
-      made = made-run k program lines budget events b e told;
+      made = made;
       spent = elim (cases_eq (length events) budget) [
         | inl same ↦ same
-        | inr differ ↦ absurd (let none : least_enabled k program (run k program events) lines ≡ None = subst (λ (es : List Event). least_enabled k program (run k program es) lines ≡ None) (sym e) (greedy-whole k program lines budget (subst (λ (es : List Event). length es < budget) e (omega arith))) in cc)
+        | inr differ ↦ absurd (let few = made.few in let none : least_enabled k program s lines 0 ≡ None = whole (omega arith) in none-some (least_enabled k program s lines 0) none some)
       ];
-      enabled = rw next refl;
+      enabled = subst (λ (x : State). IsSome (least_enabled k program x lines 0)) h some;
     }
+  where
+    none-some : (o : Option Event) → o ≡ None → IsSome o → ⊥
+    none-some None e h = absurd (cc)
+    none-some (Some event) e h = absurd (cc)
 
-pub report-from : (k : Shape) (program : List Form) (lines : List (ℕ × Op)) (events : List Event) (s : State) (n : Counts) (b : Bool) (history : List Done) (bytes : List ℕ) → s ≡ run k program events → n ≡ counts_of k program events → history ≡ s.history → s.lines ≡ (λ c g w. empty_line)
-    → (IsTrue b ↔ IsComplete k program lines events) → bytes ≡ flat_map done_text history ++ events_text n ++ messages_text n ++ end_text b → IsReport k program lines events bytes
-report-from k program lines events s n b history bytes e counts h none told is = (
+pub report-from : (k q : Shape) (program : List Form) (lines : List (ℕ × Op)) (events : List Event) (s : State) (n : Counts) (b : Bool) (bytes : List ℕ) → q ≡ k → s ≡ run k program events → n ≡ counts_of k program events
+    → (IsTrue b ↔ IsComplete k program lines events) → bytes ≡ report_text q s n b → IsReport k program lines events bytes
+report-from k q program lines events s n b bytes c e counts told is = (
   b,
   told,
-  is ∙ ap (λ (hs : List Done). flat_map done_text hs ++ events_text n ++ messages_text n ++ end_text b) (h ∙ ap (λ (x : State). x.history) e)
-      ∙ ap (λ (m : Counts). flat_map done_text (run k program events).history ++ events_text m ++ messages_text m ++ end_text b) counts
-      ∙ sym (report_text-empty k (run k program events) (counts_of k program events) b (ap (λ (x : State). x.lines) (sym e) ∙ none)),
+  is ∙ ap (λ (z : Shape). report_text z s n b) c ∙ ap (λ (x : State). report_text k x n b) e ∙ ap (λ (m : Counts). report_text k (run k program events) m b) counts,
 )

@@ -15,15 +15,8 @@ use Rattle.bk_system.specs.Runs.{after, state_after_row, run_from}
 use Rattle.bk_system.specs.Systems.{row_from}
 use Rattle.bk_system.specs.declared.counts.Counts.{Counts}
 use Rattle.bk_system.specs.Report.{count_row, counts_from}
-use Rattle.bk_system.specs.Greedy.{if_enabled, issue_of, engine_of, least_enabled, greedy_from}
-use Rattle.bk_base.proofs.Below.{first_below-never}
-
--- where nothing comes before the memory, its event is the least
-pub least-memory : (k : Shape) (program : List Form) (s : State) (lines : List (ℕ × Op)) → first_below k.caches (issue_of k program s lines) ≡ None → engine_of k program s 0 0 ≡ None → first_below k.caches (engine_of k program s 1) ≡ None
-    → engine_of k program s 2 0 ≡ None → first_below k.caches (engine_of k program s 3) ≡ None → first_below k.caches (λ c. if_enabled k program s (Command c)) ≡ None → least_enabled k program s lines ≡ if_enabled k program s Memory
-least-memory k program s lines a b c d e f =
-    let fills : first_below k.caches (λ to. first_below k.caches (λ from. if_enabled k program s (Fill to from))) ≡ None = first_below-never k.caches (λ to. first_below k.caches (λ from. if_enabled k program s (Fill to from))) (λ to. first_below-never k.caches (λ from. if_enabled k program s (Fill to from)) (λ from. refl)) in
-    rw (a, b, c, d, e, f, fills) refl
+use Rattle.bk_lce.specs.declared.line.WayView.{WayView}
+use Rattle.bk_system.specs.Greedy.{IsLeast, IsGreedyFrom}
 
 -- the state after an event, from what it answered
 pub after-from : (old new : State) (o : Option Happening) (t : Stepped) → o ≡ row_from t new → (t ≡ Disabled → new ≡ old) → new ≡ state_after_row old o
@@ -35,26 +28,11 @@ pub run_from-more : (k : Shape) (program : List Form) (s : State) (events : List
 run_from-more k program s [] event = refl
 run_from-more k program s (e ∷ events) event = run_from-more k program (after k program s e) events event
 
-pub greedy-more : (k : Shape) (program : List Form) (lines : List (ℕ × Op)) (s : State) (front : List Event) (event : Event) (budget i : ℕ) (total : List Event) → i < budget → least_enabled k program s lines ≡ Some event
-    → front ++ greedy_from k program lines s (budget - i) ≡ total → (front ++ event ∷ []) ++ greedy_from k program lines (after k program s event) (budget - (i + 1)) ≡ total
-greedy-more k program lines s front event budget i total l e so_far =
-    let n : budget - i ≡ suc (budget - (i + 1)) = omega arith in
-    let one : greedy_from k program lines s (budget - i) ≡ event ∷ greedy_from k program lines (after k program s event) (budget - (i + 1)) = rw (n, e) refl in
-    append_assoc front (event ∷ []) (greedy_from k program lines (after k program s event) (budget - (i + 1))) ∙ ap (λ (es : List Event). front ++ es) (sym one) ∙ so_far
-
-pub greedy-stops : (k : Shape) (program : List Form) (lines : List (ℕ × Op)) (s : State) (front : List Event) (budget i : ℕ) (total : List Event) → i < budget → least_enabled k program s lines ≡ None
-    → front ++ greedy_from k program lines s (budget - i) ≡ total → front ≡ total
-greedy-stops k program lines s front budget i total l e so_far =
-    let n : budget - i ≡ suc (budget - (i + 1)) = omega arith in
-    let none : greedy_from k program lines s (budget - i) ≡ [] = rw (n, e) refl in
-    sym (append-nil front) ∙ ap (λ (es : List Event). front ++ es) (sym none) ∙ so_far
-
-pub greedy-spent : (k : Shape) (program : List Form) (lines : List (ℕ × Op)) (s : State) (front : List Event) (budget i : ℕ) (total : List Event) → budget ≤ i
-    → front ++ greedy_from k program lines s (budget - i) ≡ total → front ≡ total
-greedy-spent k program lines s front budget i total l so_far =
-    let n : budget - i ≡ 0 = omega arith in
-    let none : greedy_from k program lines s (budget - i) ≡ [] = rw n refl in
-    sym (append-nil front) ∙ ap (λ (es : List Event). front ++ es) (sym none) ∙ so_far
+-- one greedy event more
+pub greedy_from-more : (policy : List WayView → ℕ → Type 0) (k : Shape) (program : List Form) (lines : List (ℕ × Op)) (s : State) (events : List Event) (event : Event) → IsGreedyFrom policy k program lines s events
+    → IsLeast policy k program (run_from k program s events) lines event → IsGreedyFrom policy k program lines s (events ++ event ∷ [])
+greedy_from-more policy k program lines s [] event h least = (least, tt)
+greedy_from-more policy k program lines s (e ∷ events) event h least = (h.0, greedy_from-more policy k program lines (after k program s e) events event h.1 least)
 
 -- a list from a place on is its element there, and the list from the next place on
 drop-here : (events : List Event) (i : ℕ) (event : Event) → i < length events → event ≡ get_or events i event → drop i events ≡ event ∷ drop (i + 1) events

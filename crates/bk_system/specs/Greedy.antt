@@ -1,5 +1,5 @@
--- The greedy schedule: each event is the least enabled one.
-use Rattle.std.specs.Prelude.{◌≡◌, ℕ, ◌+◌, ◌*◌, ◌<◌, List, [], ◌∷◌, Option, Some, None, option_and_then, length, if◌then◌else◌, slice_get}
+-- The greedy schedule: each event is the least enabled one, and an Issue has a way that the victim policy answers.
+use Rattle.std.specs.Prelude.{◌≡◌, ℕ, ◌+◌, ◌*◌, ◌<◌, List, [], ◌∷◌, Option, Some, None, option_and_then, option_map, length, if◌then◌else◌, slice_get}
 use Rattle.bk_base.specs.Places.{Shape, group_of}
 use Rattle.bk_base.specs.declared.op.Op.{Op}
 use Rattle.bk_base.specs.declared.op.Op.TheVariants as ops
@@ -22,9 +22,12 @@ if_enabled k program s event = if is_enabled k program s event then Some event e
 abbrev pub next_operation : State → List (ℕ × Op) → ℕ → Option Op
 next_operation s lines c = slice_get (operations_of c lines) (length (completed_by c s.history))
 
--- the next operation of a cache, if it can be issued with a way
-abbrev pub issue_of : Shape → List Form → State → List (ℕ × Op) → ℕ → ℕ → Option Event
-issue_of k program s lines way c = option_and_then (λ op. if_enabled k program s (Issue c op way)) (next_operation s lines c)
+-- A cache with its next operation, where the cache may issue it. That doesn't hang on the way, so it is asked with way 0.
+abbrev pub ready : Shape → List Form → State → List (ℕ × Op) → ℕ → Option (ℕ × Op)
+ready k program s lines c = option_and_then (λ op. if is_enabled k program s (Issue c op 0) then Some (c, op) else None) (next_operation s lines c)
+
+abbrev pub issue_with : ℕ → ℕ × Op → Event
+issue_with way at = Issue at.0 at.1 way
 
 abbrev pub choice_of : ℕ → ℕ → Choice
 choice_of class source = record { class = class; source = source }
@@ -32,18 +35,24 @@ choice_of class source = record { class = class; source = source }
 abbrev pub engine_of : Shape → List Form → State → ℕ → ℕ → Option Event
 engine_of k program s class source = if_enabled k program s (Engine (choice_of class source))
 
--- The least enabled event: Issue by cache; Engine, first with class 0, then responses, memory and requests, each by
--- source; Command by cache; Fill by receiver and sender; Memory. An Issue has the way that is given.
-abbrev pub least_enabled : Shape → List Form → State → List (ℕ × Op) → ℕ → Option Event
-least_enabled k program s lines way =
-    or_else (first_below k.caches (issue_of k program s lines way))
-    (or_else (engine_of k program s 0 0)
+abbrev pub fill_from : Shape → List Form → State → ℕ → ℕ → Option Event
+fill_from k program s to from = if_enabled k program s (Fill to from)
+
+-- The least enabled event but for Issue: Engine, first with class 0, then responses, memory and requests, each by source;
+-- Command by cache; Fill by receiver and sender; Memory.
+abbrev pub least_other : Shape → List Form → State → Option Event
+least_other k program s =
+    or_else (engine_of k program s 0 0)
     (or_else (first_below k.caches (engine_of k program s 1))
     (or_else (engine_of k program s 2 0)
     (or_else (first_below k.caches (engine_of k program s 3))
     (or_else (first_below k.caches (λ c. if_enabled k program s (Command c)))
-    (or_else (first_below k.caches (λ to. first_below k.caches (λ from. if_enabled k program s (Fill to from))))
-    (if_enabled k program s Memory)))))))
+    (or_else (first_below k.caches (λ to. first_below k.caches (fill_from k program s to)))
+    (if_enabled k program s Memory))))))
+
+-- The least enabled event: Issue by cache, with the way that is given, and then the others.
+abbrev pub least_enabled : Shape → List Form → State → List (ℕ × Op) → ℕ → Option Event
+least_enabled k program s lines way = or_else (option_map (issue_with way) (first_below k.caches (ready k program s lines))) (least_other k program s)
 
 -- A policy is a relation between the views of a set and a way that it may answer. An Issue is as the policy says where its way is
 -- an answer to the views of the set of its address.

@@ -98,8 +98,14 @@ abbrev pub line_text : ℕ → ℕ → ℕ → Line → List ℕ
 line_text c s w line = line_text_in c s w line line.state
 
 -- the entries by cache, set and way
+abbrev pub set_text : Shape → (ℕ → CacheState) → ℕ → ℕ → List ℕ
+set_text k caches c s = join_below k.ways (λ w. line_text c s w ((caches c).lines s w))
+
+abbrev pub cache_text : Shape → (ℕ → CacheState) → ℕ → List ℕ
+cache_text k caches c = join_below k.sets (set_text k caches c)
+
 abbrev pub lines_text : Shape → (ℕ → CacheState) → List ℕ
-lines_text k caches = join_below k.caches (λ c. join_below k.sets (λ s. join_below k.ways (λ w. line_text c s w ((caches c).lines s w))))
+lines_text k caches = join_below k.caches (cache_text k caches)
 
 abbrev pub end_text : Bool → List ℕ
 end_text complete = if complete then codes "end rested\n" else codes "end unrested\n"

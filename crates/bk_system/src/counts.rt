@@ -1,9 +1,10 @@
-ghost use Rattle.std.specs.Prelude.{◌≡◌, ℕ, ◌+◌, ◌^◌, option_to_list};
-ghost use Rattle.bk_system.specs.Report.{no_counts, count_event, count_network, count_sent};
+ghost use Rattle.std.specs.Prelude.{◌≡◌, ℕ, ◌+◌, ◌^◌};
+ghost use Rattle.bk_system.specs.Report.{no_counts, count_event, count_network};
 ghost use Rattle.bk_system.specs.Counted.{IsAtMost};
+ghost use Rattle.bk_msg.specs.Networks.{network_of};
 
 use crate::event::Event;
-use bk_msg::{Network, Row};
+use bk_msg::{Message, Network};
 
 /// How many events of each kind were enabled, and how many messages they sent in each network.
 #[derive(Clone, Copy, Debug, PartialEq, Eq)]
@@ -56,19 +57,17 @@ impl Counts {
         }
     }
 
-    /// Counts the message that an event sent, if any, by its network.
-    pub(crate) fn add_sent(&mut self, sent: &Option<Row>)
-        requires { IsAtMost (2 ^ 63) (2 ^ 63) self.old }
-        ensures value { self.new ≡ count_sent self.old (option_to_list sent.now) }
+    /// Counts a message, by its network.
+    pub(crate) fn add_message(&mut self, message: &Message)
+        requires { IsAtMost (2 ^ 63) (2 ^ 63 + 16) self.old }
+        ensures value { self.new ≡ count_network self.old (network_of message.now) }
         ensures grows { (events messages : ℕ) → IsAtMost events messages self.old → IsAtMost events (messages + 1) self.new }
     {
-        if let Some(row) = sent {
-            self.add_message(row.network());
-        }
+        self.add_network(message.row().network());
     }
 
-    fn add_message(&mut self, network: Network)
-        requires { IsAtMost (2 ^ 63) (2 ^ 63) self.old }
+    fn add_network(&mut self, network: Network)
+        requires { IsAtMost (2 ^ 63) (2 ^ 63 + 16) self.old }
         ensures { self.new ≡ count_network self.old network }
     {
         match network {

@@ -1,78 +1,88 @@
-ghost use Rattle.std.specs.Prelude.{◌≡◌, ◌≤◌, ◌<◌, length};
+ghost use Rattle.std.specs.Prelude.{◌≡◌, ◌≤◌, ◌<◌, length, IfSome, MatchOption};
 ghost use Rattle.std.specs.Option.{option_copied};
+ghost use Rattle.std.specs.Fn.{FnReturnsAt};
 ghost use Rattle.bk_base.specs.Counting.{first_below};
-ghost use Rattle.bk_system.specs.Greedy.{issue_of, engine_of, choice_of, if_enabled, least_enabled, next_operation};
+ghost use Rattle.bk_lce.specs.Asked.{IsPolicy};
+ghost use Rattle.bk_lce.specs.Policies.{views};
+ghost use Rattle.bk_lce.specs.Caches as caches;
+ghost use Rattle.bk_system.specs.Greedy.{ready, engine_of, fill_from, if_enabled, least_other, next_operation, address_of_op, IsLeast, IsEnd};
 ghost use Rattle.bk_system.specs.Systems.{state_of};
 ghost use Rattle.bk_system.specs.declared.event.Event.TheVariants.{Command};
 
 use crate::engine_channels::{MEMORY_ANSWERS, REQUESTS, RESPONSES};
 use crate::event::Event;
-use crate::system::System;
-use bk_base::Op;
+use crate::hardware::Hardware;
+use bk_base::{Addr, Op, group_of};
 use bk_engine::Choice;
 use bk_isa::Instr;
+use bk_lce::{CacheArrays, Victim, WayView};
 use bk_trace::Trace;
 
 /// The next operation of a cache in the trace: number n of its own, where n is how many have completed.
-fn next_operation<'a>(system: &System, trace: &'a Trace, cache: u8) -> Option<&'a Op>
-    requires config { trace.now.config ≡ system.now.config }
-    requires cache { cache < system.now.config.caches }
-    ensures { option_copied result ≡ next_operation (state_of system.now) trace.now.lines cache }
+fn next_operation<'a>(hardware: &Hardware, trace: &'a Trace, cache: u8) -> Option<&'a Op>
+    requires config { trace.now.config ≡ hardware.now.config }
+    requires cache { cache < hardware.now.config.caches }
+    ensures { option_copied result ≡ next_operation (state_of hardware.now) trace.now.lines cache }
 {
     trace
         .operations(cache)
-        .get(system.completed[cache as usize])
+        .get(hardware.completed[cache as usize])
 }
 
 /// The event, if it is enabled.
-fn if_enabled(system: &System, program: &[Instr], event: Event) -> Option<Event>
-    ensures { result ≡ if_enabled system.now.config program.now (state_of system.now) event }
+fn if_enabled(hardware: &Hardware, program: &[Instr], event: Event) -> Option<Event>
+    ensures { result ≡ if_enabled hardware.now.config program.now (state_of hardware.now) event }
 {
-    if system.enabled(program, &event) {
+    if hardware.enabled(program, &event) {
         Some(event)
     } else {
         None
     }
 }
 
-/// The Issue of a cache's next operation, if there is one and it is enabled.
-fn issue_of(system: &System, program: &[Instr], trace: &Trace, cache: u8) -> Option<Event>
-    requires config { trace.now.config ≡ system.now.config }
-    requires cache { cache < system.now.config.caches }
-    ensures { result ≡ issue_of system.now.config program.now (state_of system.now) trace.now.lines cache }
+/// A cache with its next operation, if there is one and the cache may issue it. Whether it may doesn't hang on the way.
+fn ready(hardware: &Hardware, program: &[Instr], trace: &Trace, cache: u8) -> Option<(u8, Op)>
+    requires config { trace.now.config ≡ hardware.now.config }
+    requires cache { cache < hardware.now.config.caches }
+    ensures own { IfSome result (λ at. at.0 ≡ cache) }
+    ensures value { result ≡ ready hardware.now.config program.now (state_of hardware.now) trace.now.lines cache }
 {
-    match next_operation(system, trace, cache) {
+    match next_operation(hardware, trace, cache) {
         None => None,
-        Some(op) => if_enabled(
-            system,
-            program,
-            Event::Issue {
+        Some(op) => {
+            let issue = Event::Issue {
                 cache,
                 op: *op,
                 way: 0,
-            },
-        ),
+            };
+            if hardware.enabled(program, &issue) {
+                Some((cache, *op))
+            } else {
+                None
+            }
+        }
     }
 }
 
-fn first_issue(system: &System, program: &[Instr], trace: &Trace) -> Option<Event>
-    requires { trace.now.config ≡ system.now.config }
-    ensures { result ≡ first_below system.now.config.caches (issue_of system.now.config program.now (state_of system.now) trace.now.lines) }
+fn first_ready(hardware: &Hardware, program: &[Instr], trace: &Trace) -> Option<(u8, Op)>
+    requires { trace.now.config ≡ hardware.now.config }
+    ensures cache { IfSome result (λ at. at.0 < hardware.now.config.caches) }
+    ensures first { result ≡ first_below hardware.now.config.caches (ready hardware.now.config program.now (state_of hardware.now) trace.now.lines) }
 {
-    for cache in 0..system.cache_count() {
-        match issue_of(system, program, trace, cache) {
+    for cache in 0..hardware.cache_count() {
+        match ready(hardware, program, trace, cache) {
             None => {}
-            Some(event) => return Some(event),
+            Some(at) => return Some(at),
         }
     }
     None
 }
 
-fn engine_of(system: &System, program: &[Instr], class: u8, source: u8) -> Option<Event>
-    ensures { result ≡ engine_of system.now.config program.now (state_of system.now) class source }
+fn engine_of(hardware: &Hardware, program: &[Instr], class: u8, source: u8) -> Option<Event>
+    ensures { result ≡ engine_of hardware.now.config program.now (state_of hardware.now) class source }
 {
     if_enabled(
-        system,
+        hardware,
         program,
         Event::Engine {
             choice: Choice { class, source },
@@ -80,11 +90,11 @@ fn engine_of(system: &System, program: &[Instr], class: u8, source: u8) -> Optio
     )
 }
 
-fn first_engine(system: &System, program: &[Instr], class: u8) -> Option<Event>
-    ensures { result ≡ first_below system.now.config.caches (engine_of system.now.config program.now (state_of system.now) class) }
+fn first_engine(hardware: &Hardware, program: &[Instr], class: u8) -> Option<Event>
+    ensures { result ≡ first_below hardware.now.config.caches (engine_of hardware.now.config program.now (state_of hardware.now) class) }
 {
-    for source in 0..system.cache_count() {
-        match engine_of(system, program, class, source) {
+    for source in 0..hardware.cache_count() {
+        match engine_of(hardware, program, class, source) {
             None => {}
             Some(event) => return Some(event),
         }
@@ -92,11 +102,11 @@ fn first_engine(system: &System, program: &[Instr], class: u8) -> Option<Event>
     None
 }
 
-fn first_command(system: &System, program: &[Instr]) -> Option<Event>
-    ensures { result ≡ first_below system.now.config.caches (λ c. if_enabled system.now.config program.now (state_of system.now) (Command c)) }
+fn first_command(hardware: &Hardware, program: &[Instr]) -> Option<Event>
+    ensures { result ≡ first_below hardware.now.config.caches (λ c. if_enabled hardware.now.config program.now (state_of hardware.now) (Command c)) }
 {
-    for cache in 0..system.cache_count() {
-        match if_enabled(system, program, Event::Command { cache }) {
+    for cache in 0..hardware.cache_count() {
+        match if_enabled(hardware, program, Event::Command { cache }) {
             None => {}
             Some(event) => return Some(event),
         }
@@ -104,28 +114,102 @@ fn first_command(system: &System, program: &[Instr]) -> Option<Event>
     None
 }
 
-/// The least enabled event of the greedy order.
-pub(crate) fn least_of(system: &System, program: &[Instr], trace: &Trace) -> Option<Event>
-    requires { trace.now.config ≡ system.now.config }
-    ensures { result ≡ least_enabled system.now.config program.now (state_of system.now) trace.now.lines }
+fn fill_from(hardware: &Hardware, program: &[Instr], to: u8, from: u8) -> Option<Event>
+    ensures { result ≡ fill_from hardware.now.config program.now (state_of hardware.now) to from }
 {
-    if let Some(event) = first_issue(system, program, trace) {
+    if_enabled(hardware, program, Event::Fill { to, from })
+}
+
+fn first_fill_to(hardware: &Hardware, program: &[Instr], to: u8) -> Option<Event>
+    ensures { result ≡ first_below hardware.now.config.caches (fill_from hardware.now.config program.now (state_of hardware.now) to) }
+{
+    for from in 0..hardware.cache_count() {
+        match fill_from(hardware, program, to, from) {
+            None => {}
+            Some(event) => return Some(event),
+        }
+    }
+    None
+}
+
+fn first_fill(hardware: &Hardware, program: &[Instr]) -> Option<Event>
+    ensures { result ≡ first_below hardware.now.config.caches (λ to. first_below hardware.now.config.caches (fill_from hardware.now.config program.now (state_of hardware.now) to)) }
+{
+    for to in 0..hardware.cache_count() {
+        match first_fill_to(hardware, program, to) {
+            None => {}
+            Some(event) => return Some(event),
+        }
+    }
+    None
+}
+
+/// The least enabled event of the greedy order but for Issue.
+pub(crate) fn least_other(hardware: &Hardware, program: &[Instr]) -> Option<Event>
+    ensures { result ≡ least_other hardware.now.config program.now (state_of hardware.now) }
+{
+    if let Some(event) = engine_of(hardware, program, 0, 0) {
         return Some(event);
     }
-    if let Some(event) = engine_of(system, program, 0, 0) {
+    if let Some(event) = first_engine(hardware, program, RESPONSES) {
         return Some(event);
     }
-    if let Some(event) = first_engine(system, program, RESPONSES) {
+    if let Some(event) = engine_of(hardware, program, MEMORY_ANSWERS, 0) {
         return Some(event);
     }
-    if let Some(event) = engine_of(system, program, MEMORY_ANSWERS, 0) {
+    if let Some(event) = first_engine(hardware, program, REQUESTS) {
         return Some(event);
     }
-    if let Some(event) = first_engine(system, program, REQUESTS) {
+    if let Some(event) = first_command(hardware, program) {
         return Some(event);
     }
-    if let Some(event) = first_command(system, program) {
+    if let Some(event) = first_fill(hardware, program) {
         return Some(event);
     }
-    if_enabled(system, program, Event::Memory)
+    if_enabled(hardware, program, Event::Memory)
+}
+
+/// The address that an operation is about.
+fn address_of(op: &Op) -> Addr
+    ensures { result ≡ address_of_op op.now }
+{
+    match op {
+        Op::Load(addr) => *addr,
+        Op::Store(addr, _) => *addr,
+        Op::UcLoad(addr) => *addr,
+        Op::UcStore(addr, _) => *addr,
+        Op::Evict(addr) => *addr,
+    }
+}
+
+fn choose<F: Fn(&[WayView]) -> u8 + Copy + Send>(victim: &Victim<F>, arrays: &CacheArrays, set: u8) -> u8
+    requires policy { IsPolicy F.Fn victim.now.pick }
+    requires set { set < arrays.now.config.sets }
+    ensures answer { FnReturnsAt F.Fn victim.now.pick (views arrays.now.config (caches.state_of arrays.now) set) result }
+    ensures within { result < arrays.now.config.ways }
+{
+    unreachable!()
+}
+
+/// The least enabled event of the greedy order; the way of an Issue is the policy's answer to the views of its set.
+pub(crate) fn least_of<F: Fn(&[WayView]) -> u8 + Copy + Send>(
+    hardware: &Hardware,
+    victim: &Victim<F>,
+    program: &[Instr],
+    trace: &Trace,
+) -> Option<Event>
+    requires config { trace.now.config ≡ hardware.now.config }
+    requires policy { IsPolicy F.Fn victim.now.pick }
+    ensures { MatchOption result (IsEnd hardware.now.config program.now (state_of hardware.now) trace.now.lines)
+        (IsLeast (FnReturnsAt F.Fn victim.now.pick) hardware.now.config program.now (state_of hardware.now) trace.now.lines) }
+{
+    let config = trace.config();
+    match first_ready(hardware, program, trace) {
+        None => least_other(hardware, program),
+        Some((cache, op)) => {
+            let set = group_of(config, address_of(&op));
+            let way = choose(victim, hardware.cache(cache), set);
+            Some(Event::Issue { cache, op, way })
+        }
+    }
 }

@@ -1,16 +1,20 @@
-ghost use Rattle.std.specs.Prelude.{◌≡◌, ◌≤◌, length, IfOk, IfErr};
+ghost use Rattle.std.specs.Prelude.{◌≡◌, ◌≤◌, ◌<◌, length, IfOk, IfErr};
+ghost use Rattle.std.specs.Fn.{FnReturnsAt};
+ghost use Rattle.bk_lce.specs.Asked.{IsPolicy};
 ghost use Rattle.bk_system.specs.Runs.{run};
-ghost use Rattle.bk_system.specs.Greedy.{budget_of, greedy};
+ghost use Rattle.bk_system.specs.Greedy.{budget_of, IsGreedy, IsEnd};
 ghost use Rattle.bk_system.specs.Serial.{IsEnded};
 ghost use Rattle.bk_system.specs.Faults.{IsFault};
 ghost use Rattle.bk_system.specs.Systems.{state_of};
 
 use crate::complete::is_done;
 use crate::event::Event;
-use crate::system::System;
+use crate::greedy::least_of;
+use crate::hardware::Hardware;
 use bk_base::Config;
 use bk_image::Image;
 use bk_isa::Instr;
+use bk_lce::{Victim, WayView};
 use bk_trace::Trace;
 use std::alloc::{AllocError, Global};
 
@@ -39,32 +43,36 @@ pub fn budget(config: Config, instructions: u64, operations: u64) -> u64
     operations * (4 * config.caches as u64 + 32) * (instructions + 4) + instructions
 }
 
-/// A run of the greedy schedule so far: the system after the events.
+/// A run of the greedy schedule so far: the system's hardware after the events.
 #[derive(Drop)]
 struct Made {
-    system: System,
+    hardware: Hardware,
     events: Vec<Event>,
 }
 
 /// Makes the greedy events, to their end or as many as the budget.
-fn make_events(
+fn make_events<F: Fn(&[WayView]) -> u8 + Copy + Send>(
     alloc: Global,
     program: &[Instr],
     trace: &Trace,
+    victim: &Victim<F>,
     budget: u64,
 ) -> Result<Made, AllocError>
-    requires { length program.now ≤ 256 }
-    ensures events { IfOk result (λ made. made.events.items ≡ greedy trace.now.config program.now trace.now.lines budget) }
-    ensures state { IfOk result (λ made. state_of made.system ≡ run trace.now.config program.now made.events.items) }
-    ensures config { IfOk result (λ made. made.system.config ≡ trace.now.config) }
+    requires few { length program.now ≤ 256 }
+    requires policy { IsPolicy F.Fn victim.now.pick }
+    ensures greedy { IfOk result (λ made. IsGreedy (FnReturnsAt F.Fn victim.now.pick) trace.now.config program.now trace.now.lines made.events.items) }
+    ensures within { IfOk result (λ made. length made.events.items ≤ budget) }
+    ensures whole { IfOk result (λ made. length made.events.items < budget → IsEnd trace.now.config program.now (state_of made.hardware) trace.now.lines) }
+    ensures state { IfOk result (λ made. state_of made.hardware ≡ run trace.now.config program.now made.events.items) }
+    ensures config { IfOk result (λ made. made.hardware.config ≡ trace.now.config) }
 {
-    let mut system = System::make(alloc, trace.config())?;
+    let mut hardware = Hardware::make(alloc, trace.config())?;
     let mut events = Vec::new(alloc);
     for _ in 0..budget {
-        let Some(event) = system.least_enabled(program, trace) else {
-            return Ok(Made { system, events });
+        let Some(event) = least_of(&hardware, victim, program, trace) else {
+            return Ok(Made { hardware, events });
         };
-        match system.happen(program, &event) {
+        match hardware.happen(program, &event) {
             Ok(_) => {}
             Err(e) => return Err(e),
         }
@@ -73,31 +81,34 @@ fn make_events(
             Err(_) => return Err(AllocError),
         }
     }
-    Ok(Made { system, events })
+    Ok(Made { hardware, events })
 }
 
-/// Runs the greedy schedule of an image over a trace, to its end or to the budget.
-pub fn serial(
+/// Runs the greedy schedule of an image over a trace, to its end or to the budget. Each Issue has the way that the victim
+/// policy answers. Any image is run, accepted or not.
+pub fn serial<F: Fn(&[WayView]) -> u8 + Copy + Send>(
     alloc: Global,
     image: &Image,
     trace: &Trace,
+    victim: &Victim<F>,
     budget: u64,
 ) -> Result<RunEnd, SerialFault>
-    ensures ok { IfOk result (λ end. IsEnded trace.now.config image.now.instrs trace.now.lines budget end.events.items end.complete) }
-    ensures fault { IfErr result (IsFault trace.now.config image.now.instrs trace.now.lines budget) }
+    requires { IsPolicy F.Fn victim.now.pick }
+    ensures ok { IfOk result (λ end. IsEnded (FnReturnsAt F.Fn victim.now.pick) trace.now.config image.now.instrs trace.now.lines budget end.events.items end.complete) }
+    ensures fault { IfErr result (IsFault (FnReturnsAt F.Fn victim.now.pick) trace.now.config image.now.instrs trace.now.lines budget) }
 {
     let program = image.instrs();
-    let made = match make_events(alloc, program, trace, budget) {
+    let made = match make_events(alloc, program, trace, victim, budget) {
         Ok(made) => made,
         Err(_) => return Err(SerialFault::Memory),
     };
-    let Made { system, events } = made;
-    let rested = system.rested(program);
-    let complete = match is_done(alloc, trace, &events, &system.history, rested) {
+    let Made { hardware, events } = made;
+    let rested = hardware.rested(program);
+    let complete = match is_done(alloc, trace, &events, &hardware.history, rested) {
         Ok(complete) => complete,
         Err(_) => return Err(SerialFault::Memory),
     };
-    match system.least_enabled(program, trace) {
+    match least_of(&hardware, victim, program, trace) {
         None => Ok(RunEnd { events, complete }),
         Some(_) => Err(SerialFault::Spent(RunEnd { events, complete })),
     }

@@ -6,4 +6,4 @@ use Rattle.bk_system.specs.Systems.{state_of}
 use Rattle.bk_system.proofs.greedy.first_command.Given as goal
 
 abbrev pub invariant-loop-cache : goal.invariant-loop-cache
-invariant-loop-cache l = first_below l.cache (λ c. if_enabled l.system.config l.program (state_of l.system) (Command c)) ≡ None
+invariant-loop-cache l = first_below l.cache (λ c. if_enabled l.hardware.config l.program (state_of l.hardware) (Command c)) ≡ None

@@ -5,4 +5,4 @@ use Rattle.bk_system.specs.Systems.{state_of}
 use Rattle.bk_system.proofs.greedy.first_engine.Given as goal
 
 abbrev pub invariant-loop-source : goal.invariant-loop-source
-invariant-loop-source l = first_below l.source (engine_of l.system.config l.program (state_of l.system) l.class) ≡ None
+invariant-loop-source l = first_below l.source (engine_of l.hardware.config l.program (state_of l.hardware) l.class) ≡ None

@@ -1,12 +1,14 @@
-use Rattle.std.proofs.Common.{◌≡◌, ◌-◌, ◌++◌}
+use Rattle.std.proofs.Common.{◌≡◌, ◌≤◌, length}
+use Rattle.std.specs.Fn.{FnReturnsAt}
 use Rattle.bk_system.specs.Runs.{run}
-use Rattle.bk_system.specs.Greedy.{greedy, greedy_from}
+use Rattle.bk_system.specs.Greedy.{IsGreedy}
 use Rattle.bk_system.specs.Systems.{state_of}
 use Rattle.bk_system.proofs.runs.make_events.Given as goal
 
 abbrev pub invariant-loop : goal.invariant-loop
-invariant-loop l = record {
-  config : l.system.config ≡ l.trace.config;
-  state : state_of l.system ≡ run l.trace.config l.program l.events.items;
-  rest : l.events.items ++ greedy_from l.trace.config l.program l.trace.lines (state_of l.system) (l.budget - l.counter) ≡ greedy l.trace.config l.program l.trace.lines l.budget;
+invariant-loop g l = record {
+  config : l.hardware.config ≡ l.trace.config;
+  state : state_of l.hardware ≡ run l.trace.config l.program l.events.items;
+  greedy : IsGreedy (FnReturnsAt g.F.Fn l.victim.pick) l.trace.config l.program l.trace.lines l.events.items;
+  count : length l.events.items ≡ l.counter;
 }
