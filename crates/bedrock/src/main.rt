@@ -7,6 +7,7 @@ ghost use Rattle.std.specs.IoError.{error_kind};
 ghost use Rattle.bk_cmd.specs.Outcomes.{is_status};
 
 use bk_cmd::{MEMORY, OK, Outcome, USAGE, fault_line, run_plain};
+use bk_lce::{Victim, oldest};
 use bk_outer::{FileShelf, StdSink};
 use std::alloc::Global;
 use std::env;
@@ -51,7 +52,13 @@ fn run(rt: &HostRuntime) -> Outcome
         Ok(words) => {
             let mut shelf = FileShelf::make(rt);
             let mut sink = StdSink::make(rt);
-            run_plain(rt.alloc(), &words, &mut shelf, &mut sink)
+            run_plain(
+                rt.alloc(),
+                &words,
+                &mut shelf,
+                &mut sink,
+                Victim::store(oldest),
+            )
         }
         Err(error) => no_words(rt.alloc(), &error),
     }

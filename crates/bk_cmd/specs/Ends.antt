@@ -1,6 +1,7 @@
 -- How a command ends, status by status.
 use Rattle.std.specs.Prelude.{◌≡◌, ℕ, ◌⊎◌, List, [], Option, String, IsSomeAnd}
 use Rattle.std.specs.Global.{Global}
+use Rattle.bk_lce.specs.declared.line.WayView.{WayView}
 use Rattle.bk_cmd.specs.declared.outcome.Outcome.{Outcome}
 use Rattle.bk_cmd.specs.Answers.{Due, Refuses}
 use Rattle.bk_cmd.specs.Inputs.{Files}
@@ -20,14 +21,14 @@ pub record SaysText (files : Files) (command : Command) (Holds : List ℕ → Ty
   pub holds : Holds text
 
 -- status 0: the sink took all that is due
-abbrev pub EndsWhole : Files → Command → Outcome → Option (List ℕ) → Option (List ℕ) → Type 0
-EndsWhole files (Replay output image trace) o before after = OfInputs files image trace (λ i t. Reported output i t o before after)
-EndsWhole files command o before after = SaysText files command (λ text. Wrote text o before after)
+abbrev pub EndsWhole : (List WayView → ℕ → Type 0) → Files → Command → Outcome → Option (List ℕ) → Option (List ℕ) → Type 0
+EndsWhole policy files (Replay output image trace) o before after = OfInputs files image trace (λ i t. Reported policy output i t o before after)
+EndsWhole policy files command o before after = SaysText files command (λ text. Wrote text o before after)
 
 -- status 7, and 1 where something was written: the sink took the first bytes of what is due, as many as are told, and no more
-abbrev pub EndsInPart : Files → Command → Outcome → Option (List ℕ) → Option (List ℕ) → Type 0
-EndsInPart files (Replay output image trace) o before after = OfInputs files image trace (λ i t. ReportedPart output i t o before after)
-EndsInPart files command o before after = SaysText files command (λ text. WrotePart text o before after)
+abbrev pub EndsInPart : (List WayView → ℕ → Type 0) → Files → Command → Outcome → Option (List ℕ) → Option (List ℕ) → Type 0
+EndsInPart policy files (Replay output image trace) o before after = OfInputs files image trace (λ i t. ReportedPart policy output i t o before after)
+EndsInPart policy files command o before after = SaysText files command (λ text. WrotePart text o before after)
 
 -- status 3: the refusal is the verdict on the file
 abbrev pub EndsRefused : Files → Command → Outcome → Type 0
@@ -38,11 +39,11 @@ abbrev pub EndsBad : Files → Command → Outcome → Type 0
 EndsBad files command o = IsBad files command o.file o.at o.column o.kind
 
 -- status 9: a run that is not complete
-abbrev pub EndsSpent : Files → Command → Outcome → Type 0
-EndsSpent files (Replay output image trace) o = OfInputs files image trace (λ i t. EndsShort i t o.events.items)
-EndsSpent files command o = ⊥
+abbrev pub EndsSpent : (List WayView → ℕ → Type 0) → Files → Command → Outcome → Type 0
+EndsSpent policy files (Replay output image trace) o = OfInputs files image trace (λ i t. EndsShort policy i t o.events.items)
+EndsSpent policy files command o = ⊥
 
 -- events are told only of a run, and then all of them
-abbrev pub TellsEvents : Files → Command → Outcome → Type 0
-TellsEvents files (Replay output image trace) o = (o.events.items ≡ []) ⊎ OfInputs files image trace (λ i t. AreEvents i t o.events.items)
-TellsEvents files command o = o.events.items ≡ []
+abbrev pub TellsEvents : (List WayView → ℕ → Type 0) → Files → Command → Outcome → Type 0
+TellsEvents policy files (Replay output image trace) o = (o.events.items ≡ []) ⊎ OfInputs files image trace (λ i t. AreEvents policy i t o.events.items)
+TellsEvents policy files command o = o.events.items ≡ []

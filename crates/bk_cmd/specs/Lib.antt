@@ -1,4 +1,3 @@
-pub mod Unbuilt
 pub mod Numbers
 pub mod Words
 pub mod Told

@@ -1,7 +1,8 @@
--- How a replay ends, once its files are read.
+-- How a replay ends, once its files are read. The policy is the relation between the views of a set and the way of a victim.
 use Rattle.std.specs.Prelude.{◌≡◌, ℕ, ◌⊎◌, List, [], ◌++◌, length, Bool, true, false, Option, Ok}
 use Rattle.bk_image.specs.Images as images
 use Rattle.bk_trace.specs.Traces as traces
+use Rattle.bk_lce.specs.declared.line.WayView.{WayView}
 use Rattle.bk_system.specs.declared.event.Event.{Event}
 use Rattle.bk_system.specs.Greedy.{budget_of}
 use Rattle.bk_system.specs.Serial.{IsEnded, IsSpent}
@@ -15,7 +16,7 @@ use Rattle.bk_cmd.specs.declared.words.Output.TheVariants.{Report, LogAndReport}
 use Rattle.bk_cmd.specs.Inputs.{Files, ImageIs, TraceIs}
 use Rattle.bk_cmd.specs.Writes.{Wrote, WrotePart}
 
--- The files are an image and a trace that are fit to run, and of these something holds.
+-- The files are an image and a trace, and of these something holds.
 pub record OfInputs (files : Files) (image_name trace_name : List ℕ) (Holds : images.Parts → traces.Parts → Type 0) : Type 0 where
   pub image : images.Parts
   pub trace : traces.Parts
@@ -27,25 +28,25 @@ abbrev pub budget_for : images.Parts → traces.Parts → ℕ
 budget_for image trace = budget_of trace.config (length image.instrs) (length trace.lines)
 
 -- the greedy run came to its end, complete or not
-abbrev pub RunEnds : images.Parts → traces.Parts → List Event → Bool → Type 0
-RunEnds image trace events complete = IsEnded trace.config image.instrs trace.lines (budget_for image trace) events complete
+abbrev pub RunEnds : (List WayView → ℕ → Type 0) → images.Parts → traces.Parts → List Event → Bool → Type 0
+RunEnds policy image trace events complete = IsEnded policy trace.config image.instrs trace.lines (budget_for image trace) events complete
 
 -- the greedy run used its budget up
-abbrev pub RunIsSpent : images.Parts → traces.Parts → List Event → Bool → Type 0
-RunIsSpent image trace events complete = IsSpent trace.config image.instrs trace.lines (budget_for image trace) events complete
+abbrev pub RunIsSpent : (List WayView → ℕ → Type 0) → images.Parts → traces.Parts → List Event → Bool → Type 0
+RunIsSpent policy image trace events complete = IsSpent policy trace.config image.instrs trace.lines (budget_for image trace) events complete
 
 -- the run ended without doing all of the trace, or used its budget up
-abbrev pub EndsShort : images.Parts → traces.Parts → List Event → Type 0
-EndsShort image trace events = RunEnds image trace events false ⊎ ((complete : Bool) × RunIsSpent image trace events complete)
+abbrev pub EndsShort : (List WayView → ℕ → Type 0) → images.Parts → traces.Parts → List Event → Type 0
+EndsShort policy image trace events = RunEnds policy image trace events false ⊎ ((complete : Bool) × RunIsSpent policy image trace events complete)
 
 -- what a fault of a run says
-abbrev pub IsRunFault : images.Parts → traces.Parts → SerialFault → Type 0
-IsRunFault image trace (Spent end) = EndsShort image trace end.events.items
-IsRunFault image trace Memory = Unit {0}
+abbrev pub IsRunFault : (List WayView → ℕ → Type 0) → images.Parts → traces.Parts → SerialFault → Type 0
+IsRunFault policy image trace (Spent end) = EndsShort policy image trace end.events.items
+IsRunFault policy image trace Memory = Unit {0}
 
 -- these are all events of the run
-abbrev pub AreEvents : images.Parts → traces.Parts → List Event → Type 0
-AreEvents image trace events = RunEnds image trace events true ⊎ EndsShort image trace events
+abbrev pub AreEvents : (List WayView → ℕ → Type 0) → images.Parts → traces.Parts → List Event → Type 0
+AreEvents policy image trace events = RunEnds policy image trace events true ⊎ EndsShort policy image trace events
 
 -- the log of a run, where it is asked for
 abbrev pub log_due : Output → images.Parts → traces.Parts → List Event → List ℕ
@@ -59,15 +60,15 @@ pub record IsDue (output : Output) (image : images.Parts) (trace : traces.Parts)
   pub whole : text ≡ log_due output image trace events ++ report
 
 -- The run is complete, and all that is due of it was taken.
-pub record Reported (output : Output) (image : images.Parts) (trace : traces.Parts) (o : Outcome) (before after : Option (List ℕ)) : Type 0 where
-  pub ended : RunEnds image trace o.events.items true
+pub record Reported (policy : List WayView → ℕ → Type 0) (output : Output) (image : images.Parts) (trace : traces.Parts) (o : Outcome) (before after : Option (List ℕ)) : Type 0 where
+  pub ended : RunEnds policy image trace o.events.items true
   pub text : List ℕ
   pub is_due : IsDue output image trace o.events.items text
   pub wrote : Wrote text o before after
 
 -- The run is complete, and not all that is due of it was taken.
-pub record ReportedPart (output : Output) (image : images.Parts) (trace : traces.Parts) (o : Outcome) (before after : Option (List ℕ)) : Type 0 where
-  pub ended : RunEnds image trace o.events.items true
+pub record ReportedPart (policy : List WayView → ℕ → Type 0) (output : Output) (image : images.Parts) (trace : traces.Parts) (o : Outcome) (before after : Option (List ℕ)) : Type 0 where
+  pub ended : RunEnds policy image trace o.events.items true
   pub text : List ℕ
   pub is_due : IsDue output image trace o.events.items text
   pub wrote : WrotePart text o before after

@@ -72,7 +72,7 @@ IsTraceStop files name failed missed _ = ⊥
 
 -- ---- commands
 
--- this file is the command's, and its turn comes: a trace is read after an image that is fit to run
+-- this file is the command's, and its turn comes: a trace is read after an image
 abbrev pub Reaches : Files → Command → ℕ → Type 0
 Reaches files (OfFile question name) file = file ≡ 1
 Reaches files (Source text) file = ⊥
@@ -86,7 +86,7 @@ Says files (Source text) answer = answer ≡ Due text
 Says files (Generate seed config operations) answer = answer ≡ Due (drawn_text seed config operations)
 Says files (Replay output image trace) answer = ⊥
 
--- the first fault of the image; or that of the trace, after an image that is fit to run
+-- the first fault of the image; or that of the trace, after an image
 abbrev pub IsBadInput : Files → List ℕ → List ℕ → ℕ → ℕ → ℕ → ℕ → Type 0
 IsBadInput files image trace file at column kind =
     ((file ≡ 1) × (column ≡ 0) × ImageIs files image (Err (bad_at at kind)))

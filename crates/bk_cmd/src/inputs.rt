@@ -3,12 +3,12 @@
 ghost use Rattle.std.specs.Prelude.{◌≡◌, ◌≤◌, ◌-◌, ◌^◌, Ok, Some, IfOk, IfErr, IfSome};
 ghost use Rattle.bk_outer.specs.Counts.{Rose};
 ghost use Rattle.bk_image.specs.Reading.{image_at};
-ghost use Rattle.bk_cmd.specs.Inputs.{runnable_image, runnable_trace, ImageIs, TraceIs};
+ghost use Rattle.bk_trace.specs.Reading.{trace_at};
+ghost use Rattle.bk_cmd.specs.Inputs.{ImageIs, TraceIs};
 ghost use Rattle.bk_cmd.specs.Stops.{GivesImage, GivesTrace, IsReadStop, IsImageStop, IsTraceStop, IsStop};
 ghost use Rattle.bk_cmd.specs.Words.{Replay};
 
 use crate::outcome::{Stop, Unread};
-use crate::unbuilt::{are_replayed, first_unbuilt};
 use crate::words::Output;
 use bk_image::{Image, ImageFault, read_image};
 use bk_outer::{ReadAnswer, Shelf};
@@ -19,13 +19,6 @@ use std::alloc::Global;
 pub(crate) const FIRST: u8 = 1;
 /// The number of the second file that the words name.
 const SECOND: u8 = 2;
-
-/// How many bytes an image has before its words.
-const HEADER_BYTES: u64 = 16;
-/// How many bytes the word of an instruction has.
-const WORD_BYTES: u64 = 8;
-/// The kind of a fault that is none of the grammar's: what isn't built yet.
-const UNBUILT: u8 = 0;
 
 /// What a replay runs, and what it writes.
 #[derive(Drop)]
@@ -51,41 +44,12 @@ pub(crate) fn image_in(alloc: Global, bytes: &[u8]) -> Result<Image, Stop>
     }
 }
 
-/// The image of these bytes, if the engine runs it.
-fn runnable_image(alloc: Global, bytes: &[u8]) -> Result<Image, Stop>
-    ensures { GivesImage result (runnable_image bytes.now) }
-{
-    match image_in(alloc, bytes) {
-        Ok(image) => match first_unbuilt(image.instrs()) {
-            None => Ok(image),
-            Some(n) => Err(Stop::Bad {
-                file: FIRST,
-                at: HEADER_BYTES + WORD_BYTES * n as u64,
-                column: 0,
-                kind: UNBUILT,
-            }),
-        },
-        Err(stop) => Err(stop),
-    }
-}
-
-/// The trace of this text, of the second file, if all of it is replayed.
-fn runnable_trace(alloc: Global, text: &[u8]) -> Result<Trace, Stop>
-    ensures { GivesTrace result (runnable_trace text.now) }
+/// The trace of this text, of the second file.
+fn trace_in(alloc: Global, text: &[u8]) -> Result<Trace, Stop>
+    ensures { GivesTrace result (trace_at text.now) }
 {
     match read_trace(alloc, text) {
-        Ok(trace) => {
-            if are_replayed(trace.lines()) {
-                Ok(trace)
-            } else {
-                Err(Stop::Bad {
-                    file: SECOND,
-                    at: 0,
-                    column: 0,
-                    kind: UNBUILT,
-                })
-            }
-        }
+        Ok(trace) => Ok(trace),
         Err(TraceFault::Bad { line, column, kind }) => Err(Stop::Bad {
             file: SECOND,
             at: line,
@@ -142,7 +106,7 @@ fn image_of<H: Shelf>(alloc: Global, shelf: &mut H, name: &str) -> Result<Image,
     ensures misses_last { H.misses shelf.old ≡ 2 ^ 64 - 1 → H.misses shelf.new ≡ 2 ^ 64 - 1 }
 {
     match bytes_of(alloc, shelf, FIRST, name) {
-        Ok(bytes) => runnable_image(alloc, &bytes),
+        Ok(bytes) => image_in(alloc, &bytes),
         Err(stop) => Err(stop),
     }
 }
@@ -159,7 +123,7 @@ fn trace_of<H: Shelf>(alloc: Global, shelf: &mut H, name: &str) -> Result<Trace,
     ensures misses_last { H.misses shelf.old ≡ 2 ^ 64 - 1 → H.misses shelf.new ≡ 2 ^ 64 - 1 }
 {
     match bytes_of(alloc, shelf, SECOND, name) {
-        Ok(bytes) => runnable_trace(alloc, &bytes),
+        Ok(bytes) => trace_in(alloc, &bytes),
         Err(stop) => Err(stop),
     }
 }

@@ -8,7 +8,6 @@ mod numbers;
 mod outcome;
 mod replay;
 mod run;
-mod unbuilt;
 mod words;
 mod writing;
 

@@ -1,6 +1,8 @@
 //! The replay of an image over a trace.
 
 ghost use Rattle.std.specs.Prelude.{◌≡◌, ◌≤◌, ◌<◌, ◌⊎◌, ◌++◌, [], true, false, IfOk, IfErr, IsTrue};
+ghost use Rattle.std.specs.Fn.{FnReturnsAt};
+ghost use Rattle.bk_lce.specs.Asked.{IsPolicy};
 ghost use Rattle.bk_outer.specs.Counts.{Rose};
 ghost use Rattle.bk_cmd.specs.Outcomes.{LeavesRest, is_after_run, is_after_write};
 ghost use Rattle.bk_cmd.specs.Replays.{RunEnds, EndsShort, AreEvents, IsRunFault, IsDue, log_due, Reported, ReportedPart};
@@ -9,6 +11,7 @@ use crate::inputs::Inputs;
 use crate::outcome::{MEMORY, OK, Outcome, SPENT, Stop, WRITE_FAULT, ended, stopped};
 use crate::words::Output;
 use crate::writing::deliver;
+use bk_lce::{Victim, WayView};
 use bk_log::log;
 use bk_outer::Sink;
 use bk_system::{Event, RunEnd, SerialFault, budget, report, serial};
@@ -42,15 +45,21 @@ fn texts_of(alloc: Global, inputs: &Inputs, events: &[Event]) -> Result<Texts, A
 }
 
 /// Writes what is due of a complete run.
-fn write_texts<K: Sink>(alloc: Global, inputs: &Inputs, events: Vec<Event>, sink: &mut K) -> Outcome
-    requires { RunEnds inputs.now.image inputs.now.trace events.items true }
+fn write_texts<K: Sink, F: Fn(&[WayView]) -> u8 + Copy + Send>(
+    alloc: Global,
+    inputs: &Inputs,
+    victim: &Victim<F>,
+    events: Vec<Event>,
+    sink: &mut K,
+) -> Outcome
+    requires { RunEnds (FnReturnsAt F.Fn victim.now.pick) inputs.now.image inputs.now.trace events.items true }
     ensures ok { result.status ≡ OK →
-        Reported inputs.now.output inputs.now.image inputs.now.trace result (K.taken sink.old) (K.taken sink.new) }
+        Reported (FnReturnsAt F.Fn victim.now.pick) inputs.now.output inputs.now.image inputs.now.trace result (K.taken sink.old) (K.taken sink.new) }
     ensures write_fault { result.status ≡ WRITE_FAULT →
-        ReportedPart inputs.now.output inputs.now.image inputs.now.trace result (K.taken sink.old) (K.taken sink.new) }
+        ReportedPart (FnReturnsAt F.Fn victim.now.pick) inputs.now.output inputs.now.image inputs.now.trace result (K.taken sink.old) (K.taken sink.new) }
     ensures counted { result.status ≡ WRITE_FAULT → Rose (K.faults sink.old) (K.faults sink.new) }
     ensures memory_part { result.status ≡ MEMORY → 0 < result.written →
-        ReportedPart inputs.now.output inputs.now.image inputs.now.trace result (K.taken sink.old) (K.taken sink.new) }
+        ReportedPart (FnReturnsAt F.Fn victim.now.pick) inputs.now.output inputs.now.image inputs.now.trace result (K.taken sink.old) (K.taken sink.new) }
     ensures memory_none { result.status ≡ MEMORY → result.written ≡ 0 →
         K.taken sink.new ≡ K.taken sink.old }
     ensures status { IsTrue (is_after_write result.status) }
@@ -65,41 +74,52 @@ fn write_texts<K: Sink>(alloc: Global, inputs: &Inputs, events: Vec<Event>, sink
 }
 
 /// Runs the greedy schedule within the budget of the image and the trace.
-fn run(alloc: Global, inputs: &Inputs) -> Result<RunEnd, SerialFault>
+fn run<F: Fn(&[WayView]) -> u8 + Copy + Send>(
+    alloc: Global,
+    inputs: &Inputs,
+    victim: &Victim<F>,
+) -> Result<RunEnd, SerialFault>
+    requires { IsPolicy F.Fn victim.now.pick }
     ensures ok { IfOk result (λ end.
-        RunEnds inputs.now.image inputs.now.trace end.events.items end.complete) }
-    ensures err { IfErr result (IsRunFault inputs.now.image inputs.now.trace) }
+        RunEnds (FnReturnsAt F.Fn victim.now.pick) inputs.now.image inputs.now.trace end.events.items end.complete) }
+    ensures err { IfErr result (IsRunFault (FnReturnsAt F.Fn victim.now.pick) inputs.now.image inputs.now.trace) }
 {
     let instructions = inputs.image.instrs().len() as u64;
     let operations = inputs.trace.lines().len() as u64;
     let events_limit = budget(inputs.trace.config(), instructions, operations);
-    serial(alloc, &inputs.image, &inputs.trace, events_limit)
+    serial(alloc, &inputs.image, &inputs.trace, victim, events_limit)
 }
 
 /// Runs the greedy schedule, and writes what is due of a complete run.
-pub(crate) fn replay<K: Sink>(alloc: Global, inputs: &Inputs, sink: &mut K) -> Outcome
+pub(crate) fn replay<K: Sink, F: Fn(&[WayView]) -> u8 + Copy + Send>(
+    alloc: Global,
+    inputs: &Inputs,
+    victim: &Victim<F>,
+    sink: &mut K,
+) -> Outcome
+    requires { IsPolicy F.Fn victim.now.pick }
     ensures ok { result.status ≡ OK →
-        Reported inputs.now.output inputs.now.image inputs.now.trace result (K.taken sink.old) (K.taken sink.new) }
+        Reported (FnReturnsAt F.Fn victim.now.pick) inputs.now.output inputs.now.image inputs.now.trace result (K.taken sink.old) (K.taken sink.new) }
     ensures write_fault { result.status ≡ WRITE_FAULT →
-        ReportedPart inputs.now.output inputs.now.image inputs.now.trace result (K.taken sink.old) (K.taken sink.new) }
+        ReportedPart (FnReturnsAt F.Fn victim.now.pick) inputs.now.output inputs.now.image inputs.now.trace result (K.taken sink.old) (K.taken sink.new) }
     ensures counted { result.status ≡ WRITE_FAULT → Rose (K.faults sink.old) (K.faults sink.new) }
     ensures memory_part { result.status ≡ MEMORY → 0 < result.written →
-        ReportedPart inputs.now.output inputs.now.image inputs.now.trace result (K.taken sink.old) (K.taken sink.new) }
+        ReportedPart (FnReturnsAt F.Fn victim.now.pick) inputs.now.output inputs.now.image inputs.now.trace result (K.taken sink.old) (K.taken sink.new) }
     ensures memory_none { result.status ≡ MEMORY → result.written ≡ 0 →
         K.taken sink.new ≡ K.taken sink.old }
     ensures spent { result.status ≡ SPENT →
-        EndsShort inputs.now.image inputs.now.trace result.events.items }
+        EndsShort (FnReturnsAt F.Fn victim.now.pick) inputs.now.image inputs.now.trace result.events.items }
     ensures events { (result.events.items ≡ [])
-        ⊎ AreEvents inputs.now.image inputs.now.trace result.events.items }
+        ⊎ AreEvents (FnReturnsAt F.Fn victim.now.pick) inputs.now.image inputs.now.trace result.events.items }
     ensures status { IsTrue (is_after_run result.status) }
     ensures unwritten { is_after_write result.status ≡ false → sink.new ≡ sink.old }
     ensures rest { LeavesRest result }
     ensures faults_kept { K.faults sink.old ≤ K.faults sink.new }
 {
-    match run(alloc, inputs) {
+    match run(alloc, inputs, victim) {
         Ok(end) => {
             if end.complete {
-                write_texts(alloc, inputs, end.events, sink)
+                write_texts(alloc, inputs, victim, end.events, sink)
             } else {
                 ended(SPENT, end.events, 0)
             }

@@ -1,6 +1,8 @@
 //! Doing what a command line asks for.
 
 ghost use Rattle.std.specs.Prelude.{◌≡◌, ◌≤◌, ◌<◌, ◌⊎◌, ◌↔◌, None, true, false, IsTrue};
+ghost use Rattle.std.specs.Fn.{FnReturnsAt};
+ghost use Rattle.bk_lce.specs.Asked.{IsPolicy};
 ghost use Rattle.bk_outer.specs.Counts.{Rose};
 ghost use Rattle.bk_cmd.specs.Ends.{OfCommand, EndsWhole, EndsInPart, EndsRefused, EndsBad, EndsSpent, TellsEvents};
 ghost use Rattle.bk_cmd.specs.Outcomes.{LeavesRest, is_status, is_after_write, is_limit};
@@ -17,6 +19,7 @@ use crate::outcome::{
 use crate::replay::replay;
 use crate::words::{Command, command_of};
 use crate::writing::deliver;
+use bk_lce::{Victim, WayView};
 use bk_outer::{Shelf, Sink};
 use std::alloc::Global;
 
@@ -37,18 +40,23 @@ use std::alloc::Global;
 /// - `MEMORY`: memory ran out, at any moment after the words;
 /// - `USAGE`: the words are no command;
 /// - `REFUSED`: the image is not accepted, by `refusal`;
-/// - `MALFORMED`: a file is not of its grammar, or holds what isn't run yet;
+/// - `MALFORMED`: a file is not of its grammar;
 /// - `ABSENT`: there is no such file;
 /// - `READ_FAULT`: a file could not be read;
 /// - `WRITE_FAULT`: the sink failed, and took `written` bytes of what is due;
 /// - `TOO_LONG`: a file has too many bytes, an image or a text too many instructions, or a trace too many operations;
 /// - `SPENT`: the run ended and is not complete.
-pub fn run_plain<H: Shelf, K: Sink>(
+///
+/// Each operation of a replay begins with the way that the victim policy answers for it. Any image that is one is replayed,
+/// accepted or not.
+pub fn run_plain<H: Shelf, K: Sink, F: Fn(&[WayView]) -> u8 + Copy + Send>(
     alloc: Global,
     words: &[String],
     shelf: &mut H,
     sink: &mut K,
+    victim: Victim<F>,
 ) -> Outcome
+    requires { IsPolicy F.Fn victim.pick }
     ensures status { IsTrue (is_status result.status) }
 
     // Exactly the words that are no command are answered so, before anything else.
@@ -57,22 +65,22 @@ pub fn run_plain<H: Shelf, K: Sink>(
 
     // All that is due of the files was written, and nothing else.
     ensures ok { result.status ≡ OK → OfCommand words.now (λ command.
-        EndsWhole (H.files shelf.old) command result (K.taken sink.old) (K.taken sink.new)) }
+        EndsWhole (FnReturnsAt F.Fn victim.pick) (H.files shelf.old) command result (K.taken sink.old) (K.taken sink.new)) }
 
     // The first bytes of what is due were written, as many as are told, and nothing else.
     ensures write_fault { result.status ≡ WRITE_FAULT → OfCommand words.now (λ command.
-        EndsInPart (H.files shelf.old) command result (K.taken sink.old) (K.taken sink.new)) }
+        EndsInPart (FnReturnsAt F.Fn victim.pick) (H.files shelf.old) command result (K.taken sink.old) (K.taken sink.new)) }
     ensures write_counted { result.status ≡ WRITE_FAULT → Rose (K.faults sink.old) (K.faults sink.new) }
     ensures memory_part { result.status ≡ MEMORY → 0 < result.written → OfCommand words.now (λ command.
-        EndsInPart (H.files shelf.old) command result (K.taken sink.old) (K.taken sink.new)) }
+        EndsInPart (FnReturnsAt F.Fn victim.pick) (H.files shelf.old) command result (K.taken sink.old) (K.taken sink.new)) }
     ensures memory_none { result.status ≡ MEMORY → result.written ≡ 0 → K.taken sink.new ≡ K.taken sink.old }
 
     // The verdict on an image, and a run that is not complete.
     ensures refused { result.status ≡ REFUSED → OfCommand words.now (λ command.
         EndsRefused (H.files shelf.old) command result) }
     ensures spent { result.status ≡ SPENT → OfCommand words.now (λ command.
-        EndsSpent (H.files shelf.old) command result) }
-    ensures events { OfCommand words.now (λ command. TellsEvents (H.files shelf.old) command result)
+        EndsSpent (FnReturnsAt F.Fn victim.pick) (H.files shelf.old) command result) }
+    ensures events { OfCommand words.now (λ command. TellsEvents (FnReturnsAt F.Fn victim.pick) (H.files shelf.old) command result)
         ⊎ (command_of words.now ≡ None) }
 
     // The first fault of a file; one that a list is over its limit has a status of its own.
@@ -123,7 +131,7 @@ pub fn run_plain<H: Shelf, K: Sink>(
             image,
             trace,
         } => match inputs_of(alloc, shelf, output, image, trace) {
-            Ok(inputs) => replay(alloc, &inputs, sink),
+            Ok(inputs) => replay(alloc, &inputs, &victim, sink),
             Err(stop) => stopped(alloc, stop),
         },
     }

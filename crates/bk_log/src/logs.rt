@@ -3,7 +3,7 @@ ghost use Rattle.bk_log.specs.Log.{log_of};
 
 use crate::messages::push_stepped;
 use bk_image::Image;
-use bk_system::{Event, System};
+use bk_system::{Event, Hardware};
 use bk_trace::Trace;
 use std::alloc::{AllocError, Global};
 
@@ -19,10 +19,10 @@ pub fn log(
     ensures { IfOk result (λ bytes. bytes.items ≡ log_of trace.now.config image.now.instrs events.now) }
 {
     let program = image.instrs();
-    let mut system = System::make(alloc, trace.config())?;
+    let mut hardware = Hardware::make(alloc, trace.config())?;
     let mut out = String::new(alloc);
     for event in events {
-        let stepped = match system.happen(program, event) {
+        let stepped = match hardware.happen(program, event) {
             Ok(stepped) => stepped,
             Err(e) => return Err(e),
         };

@@ -1,27 +1,43 @@
 //! The line of a message.
 
 ghost use Rattle.std.specs.Prelude.{◌≡◌, ◌++◌, OnOk, string_bytes};
+ghost use Rattle.std.specs.List.{flat_map};
 ghost use Rattle.bk_system.specs.State.{State};
 ghost use Rattle.bk_system.specs.Systems.{row_from};
 ghost use Rattle.bk_log.specs.Log.{message_text, row_text};
 
 use crate::events::push_event;
-use bk_msg::{Row, spell};
+use bk_msg::{Message, spell};
 use bk_system::{Event, Stepped};
 use std::alloc::{AllocError, Global};
 
 // Each function fails only where memory runs out; `out` may then hold a part of its text.
 
 /// Writes the line of a message.
-fn push_message(alloc: Global, out: &mut String, message: &Row) -> Result<(), AllocError>
+fn push_message(alloc: Global, out: &mut String, message: &Message) -> Result<(), AllocError>
     ensures { OnOk result (string_bytes out.new ≡ string_bytes out.old ++ message_text message.now) }
 {
-    let bytes = spell(message);
+    let row = message.row();
+    let bytes = spell(&row);
     let digits = hex::encode(alloc, bytes.as_slice())?;
     writeln!(out, "m {digits}")
 }
 
-/// Writes the line of an event that was enabled, and that of the message that it sent, if any.
+/// Writes the lines of messages, in order.
+fn push_messages(
+    alloc: Global,
+    out: &mut String,
+    messages: &[Message],
+) -> Result<(), AllocError>
+    ensures { OnOk result (string_bytes out.new ≡ string_bytes out.old ++ flat_map message_text messages.now) }
+{
+    for message in messages {
+        push_message(alloc, out, message)?;
+    }
+    Ok(())
+}
+
+/// Writes the line of an event that was enabled, and those of the messages that it sent.
 pub(crate) fn push_stepped(
     alloc: Global,
     out: &mut String,
@@ -32,10 +48,9 @@ pub(crate) fn push_stepped(
 {
     match stepped {
         Stepped::Disabled => Ok(()),
-        Stepped::Ran(None) => push_event(out, event),
-        Stepped::Ran(Some(message)) => {
+        Stepped::Ran(sent) => {
             push_event(out, event)?;
-            push_message(alloc, out, message)
+            push_messages(alloc, out, sent.as_slice())
         }
     }
 }

@@ -5,6 +5,6 @@ use Rattle.bk_log.proofs.logs.log.Given as goal
 
 abbrev pub invariant-loop-event : goal.invariant-loop-event
 invariant-loop-event l = record {
-  config : l.system.config ≡ l.trace.config;
-  text : string_bytes l.out ++ log_from l.trace.config l.program (state_of l.system) (drop l.event-index l.events) ≡ log_of l.trace.config l.program l.events;
+  config : l.hardware.config ≡ l.trace.config;
+  text : string_bytes l.out ++ log_from l.trace.config l.program (state_of l.hardware) (drop l.event-index l.events) ≡ log_of l.trace.config l.program l.events;
 }

@@ -1,0 +1,5 @@
+/// A victim policy.
+#[derive(Clone, Copy)]
+pub struct Victim<F> {
+    pub(crate) pick: F,
+}
