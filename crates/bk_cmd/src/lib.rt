@@ -21,4 +21,6 @@ pub use run::run_plain;
 #[cfg(test)]
 mod programs;
 #[cfg(test)]
+mod rows;
+#[cfg(test)]
 mod tests;

@@ -1,6 +1,7 @@
 use super::*;
 use crate::programs::{EI, MESI, MOESIF, MSI, UNCACHED, UNCACHED_KNOWN};
 use bk_check::Refusal;
+use bk_lce::{Victim, oldest};
 use bk_outer::{MemShelf, MemSink};
 use std::alloc::Global;
 use std::test::Fail;
@@ -37,7 +38,7 @@ end rested
 ";
 
 /// The words of a command line.
-fn words_of(alloc: Global, line: &[&str]) -> Result<Vec<String>, Fail> {
+pub(crate) fn words_of(alloc: Global, line: &[&str]) -> Result<Vec<String>, Fail> {
     let mut words = Vec::new(alloc);
     for word in line {
         words.push(String::from_str(alloc, word)?)?;
@@ -46,12 +47,12 @@ fn words_of(alloc: Global, line: &[&str]) -> Result<Vec<String>, Fail> {
 }
 
 /// The words `replay serial a.bk b.trace`.
-fn words(alloc: Global) -> Result<Vec<String>, Fail> {
+pub(crate) fn words(alloc: Global) -> Result<Vec<String>, Fail> {
     words_of(alloc, &["replay", "serial", "a.bk", "b.trace"])
 }
 
 /// A shelf with the two files that the words name.
-fn shelf(alloc: Global, image: &[u8], trace: &str, failing: Vec<u64>) -> Result<MemShelf, Fail> {
+pub(crate) fn shelf(alloc: Global, image: &[u8], trace: &str, failing: Vec<u64>) -> Result<MemShelf, Fail> {
     let mut files = Vec::new(alloc);
     files.push((String::from_str(alloc, "a.bk")?, image.to_vec(alloc)?))?;
     files.push((
@@ -62,8 +63,13 @@ fn shelf(alloc: Global, image: &[u8], trace: &str, failing: Vec<u64>) -> Result<
 }
 
 /// A sink that never fails.
-fn sink(alloc: Global) -> MemSink {
+pub(crate) fn sink(alloc: Global) -> MemSink {
     MemSink::make(alloc, 4096, Vec::new(alloc))
+}
+
+/// The outcome of a command line, with the oldest way as the victim.
+pub(crate) fn asked(alloc: Global, words: &[String], shelf: &mut MemShelf, sink: &mut MemSink) -> Outcome {
+    run_plain(alloc, words, shelf, sink, Victim::store(oldest))
 }
 
 fn numbers(outcome: &Outcome) -> [u64; 6] {
@@ -82,7 +88,7 @@ fn two_operations(rt: HostRuntime) -> Result<(), Fail> {
     let alloc = rt.alloc();
     let mut shelf = shelf(alloc, &UNCACHED, TWO_OPERATIONS, Vec::new(alloc))?;
     let mut sink = sink(alloc);
-    let outcome = run_plain(alloc, &words(alloc)?, &mut shelf, &mut sink);
+    let outcome = asked(alloc, &words(alloc)?, &mut shelf, &mut sink);
     assert_eq!(rt; numbers(&outcome), [OK as u64, 0, 0, 0, 0, 152]);
     assert_eq!(rt; outcome.events.len(), 37);
     assert!(rt; sink.bytes() == TWO_OPERATIONS_REPORT.as_bytes());
@@ -96,7 +102,7 @@ fn a_log(rt: HostRuntime) -> Result<(), Fail> {
     let mut shelf = shelf(alloc, &UNCACHED, TWO_OPERATIONS, Vec::new(alloc))?;
     let mut sink = sink(alloc);
     let words = words_of(alloc, &["replay", "log", "a.bk", "b.trace"])?;
-    let outcome = run_plain(alloc, &words, &mut shelf, &mut sink);
+    let outcome = asked(alloc, &words, &mut shelf, &mut sink);
     assert_eq!(rt; outcome.status, OK);
     assert_eq!(rt; outcome.events.len(), 37);
     assert_eq!(rt; outcome.written, sink.bytes().len() as u64);
@@ -118,7 +124,7 @@ fn faults_of_a_trace(rt: HostRuntime) -> Result<(), Fail> {
     for (trace, line, column, kind) in cases {
         let mut shelf = shelf(alloc, &UNCACHED, trace, Vec::new(alloc))?;
         let mut sink = sink(alloc);
-        let outcome = run_plain(alloc, &words(alloc)?, &mut shelf, &mut sink);
+        let outcome = asked(alloc, &words(alloc)?, &mut shelf, &mut sink);
         assert_eq!(rt;
             numbers(&outcome),
             [MALFORMED as u64, 2, line, column, kind, 0]
@@ -136,7 +142,7 @@ fn too_many_operations(rt: HostRuntime) -> Result<(), Fail> {
     }
     let mut shelf = shelf(alloc, &UNCACHED, &trace, Vec::new(alloc))?;
     let mut sink = sink(alloc);
-    let outcome = run_plain(alloc, &words(alloc)?, &mut shelf, &mut sink);
+    let outcome = asked(alloc, &words(alloc)?, &mut shelf, &mut sink);
     assert_eq!(rt; numbers(&outcome), [TOO_LONG as u64, 2, 10_002, 1, 47, 0]);
     assert!(rt; fault_line(&outcome).as_str() == "bedrock: too long file 2");
     Ok(())
@@ -147,7 +153,7 @@ fn no_operation(rt: HostRuntime) -> Result<(), Fail> {
     let alloc = rt.alloc();
     let mut shelf = shelf(alloc, &UNCACHED, "config 2 4 2", Vec::new(alloc))?;
     let mut sink = sink(alloc);
-    let outcome = run_plain(alloc, &words(alloc)?, &mut shelf, &mut sink);
+    let outcome = asked(alloc, &words(alloc)?, &mut shelf, &mut sink);
     assert_eq!(rt; outcome.status, OK);
     assert_eq!(rt; outcome.events.len(), 0);
     assert!(rt; sink.bytes() == EMPTY_REPORT.as_bytes());
@@ -159,7 +165,7 @@ fn a_stuck_engine(rt: HostRuntime) -> Result<(), Fail> {
     let alloc = rt.alloc();
     let mut shelf = shelf(alloc, &NOP, "config 1 1 1", Vec::new(alloc))?;
     let mut sink = sink(alloc);
-    let outcome = run_plain(alloc, &words(alloc)?, &mut shelf, &mut sink);
+    let outcome = asked(alloc, &words(alloc)?, &mut shelf, &mut sink);
     assert_eq!(rt; numbers(&outcome), [SPENT as u64, 0, 0, 0, 0, 0]);
     assert_eq!(rt; outcome.events.len(), 1);
     assert_eq!(rt; sink.bytes().len(), 0);
@@ -172,7 +178,7 @@ fn a_write_that_fails(rt: HostRuntime) -> Result<(), Fail> {
     let alloc = rt.alloc();
     let mut shelf = shelf(alloc, &UNCACHED, TWO_OPERATIONS, Vec::new(alloc))?;
     let mut sink = MemSink::make(alloc, 50, vec![in alloc; 3]?);
-    let outcome = run_plain(alloc, &words(alloc)?, &mut shelf, &mut sink);
+    let outcome = asked(alloc, &words(alloc)?, &mut shelf, &mut sink);
     assert_eq!(rt; numbers(&outcome), [WRITE_FAULT as u64, 0, 0, 0, 0, 100]);
     assert_eq!(rt; outcome.events.len(), 37);
     assert!(rt; sink.bytes() == &TWO_OPERATIONS_REPORT.as_bytes()[..100]);
@@ -186,7 +192,7 @@ fn a_drawn_trace(rt: HostRuntime) -> Result<(), Fail> {
     let mut shelf = shelf(alloc, &NOP, "", Vec::new(alloc))?;
     let mut sink = sink(alloc);
     let words = words_of(alloc, &["gen", "7", "2", "4", "2", "1"])?;
-    let outcome = run_plain(alloc, &words, &mut shelf, &mut sink);
+    let outcome = asked(alloc, &words, &mut shelf, &mut sink);
     assert_eq!(rt; numbers(&outcome), [OK as u64, 0, 0, 0, 0, 25]);
     assert!(rt; sink.bytes() == "config 2 4 2\n1 S 0x5e8 1\n".as_bytes());
     Ok(())
@@ -216,7 +222,7 @@ fn words_that_are_no_command(rt: HostRuntime) -> Result<(), Fail> {
     for line in lines {
         let mut shelf = shelf(alloc, &NOP, "", Vec::new(alloc))?;
         let mut sink = sink(alloc);
-        let outcome = run_plain(alloc, &words_of(alloc, line)?, &mut shelf, &mut sink);
+        let outcome = asked(alloc, &words_of(alloc, line)?, &mut shelf, &mut sink);
         assert_eq!(rt; numbers(&outcome), [USAGE as u64, 0, 0, 0, 0, 0]);
     }
     Ok(())
@@ -227,7 +233,7 @@ fn no_words(rt: HostRuntime) -> Result<(), Fail> {
     let alloc = rt.alloc();
     let mut shelf = shelf(alloc, &UNCACHED, TWO_OPERATIONS, Vec::new(alloc))?;
     let mut sink = sink(alloc);
-    let outcome = run_plain(alloc, &[], &mut shelf, &mut sink);
+    let outcome = asked(alloc, &[], &mut shelf, &mut sink);
     assert_eq!(rt; numbers(&outcome), [USAGE as u64, 0, 0, 0, 0, 0]);
     assert!(rt; fault_line(&outcome).as_str() == "bedrock: usage");
     Ok(())
@@ -240,34 +246,9 @@ fn a_reserved_field(rt: HostRuntime) -> Result<(), Fail> {
     image[16] = 1;
     let mut shelf = shelf(alloc, &image, TWO_OPERATIONS, Vec::new(alloc))?;
     let mut sink = sink(alloc);
-    let outcome = run_plain(alloc, &words(alloc)?, &mut shelf, &mut sink);
+    let outcome = asked(alloc, &words(alloc)?, &mut shelf, &mut sink);
     assert_eq!(rt; numbers(&outcome), [MALFORMED as u64, 1, 16, 0, 8, 0]);
     assert!(rt; fault_line(&outcome).as_str() == "bedrock: malformed file 1 at 16:0 kind 8");
-    Ok(())
-}
-
-#[test]
-fn an_instruction_that_is_not_built(rt: HostRuntime) -> Result<(), Fail> {
-    let alloc = rt.alloc();
-    let mut image = NOP;
-    // `rdw`
-    image[23] = 0x40;
-    let mut shelf = shelf(alloc, &image, TWO_OPERATIONS, Vec::new(alloc))?;
-    let mut sink = sink(alloc);
-    let outcome = run_plain(alloc, &words(alloc)?, &mut shelf, &mut sink);
-    assert_eq!(rt; numbers(&outcome), [MALFORMED as u64, 1, 16, 0, 0, 0]);
-    assert!(rt; fault_line(&outcome).as_str() == "bedrock: malformed file 1 at 16:0 kind 0");
-    Ok(())
-}
-
-#[test]
-fn a_cached_operation(rt: HostRuntime) -> Result<(), Fail> {
-    let alloc = rt.alloc();
-    let mut shelf = shelf(alloc, &UNCACHED, "config 1 1 1\n0 L 0x0", Vec::new(alloc))?;
-    let mut sink = sink(alloc);
-    let outcome = run_plain(alloc, &words(alloc)?, &mut shelf, &mut sink);
-    assert_eq!(rt; numbers(&outcome), [MALFORMED as u64, 2, 0, 0, 0, 0]);
-    assert!(rt; fault_line(&outcome).as_str() == "bedrock: malformed file 2 at 0:0 kind 0");
     Ok(())
 }
 
@@ -276,7 +257,7 @@ fn a_read_that_fails(rt: HostRuntime) -> Result<(), Fail> {
     let alloc = rt.alloc();
     let mut shelf = shelf(alloc, &UNCACHED, TWO_OPERATIONS, vec![in alloc; 2]?)?;
     let mut sink = sink(alloc);
-    let outcome = run_plain(alloc, &words(alloc)?, &mut shelf, &mut sink);
+    let outcome = asked(alloc, &words(alloc)?, &mut shelf, &mut sink);
     assert_eq!(rt; numbers(&outcome), [READ_FAULT as u64, 2, 0, 0, 0, 0]);
     assert!(rt; fault_line(&outcome).as_str() == "bedrock: read fault file 2");
     Ok(())
@@ -324,7 +305,7 @@ fn verify_words(alloc: Global) -> Result<Vec<String>, Fail> {
 fn verified(alloc: Global, image: &[u8]) -> Result<(Outcome, MemSink), Fail> {
     let mut shelf = shelf(alloc, image, "", Vec::new(alloc))?;
     let mut sink = sink(alloc);
-    let outcome = run_plain(alloc, &verify_words(alloc)?, &mut shelf, &mut sink);
+    let outcome = asked(alloc, &verify_words(alloc)?, &mut shelf, &mut sink);
     Ok((outcome, sink))
 }
 
@@ -406,19 +387,19 @@ fn files_without_bytes(rt: HostRuntime) -> Result<(), Fail> {
     let alloc = rt.alloc();
     let mut empty = MemShelf::make(alloc, Vec::new(alloc), Vec::new(alloc));
     let mut sink = sink(alloc);
-    let outcome = run_plain(alloc, &verify_words(alloc)?, &mut empty, &mut sink);
+    let outcome = asked(alloc, &verify_words(alloc)?, &mut empty, &mut sink);
     assert_eq!(rt; numbers(&outcome), [ABSENT as u64, 1, 0, 0, 0, 0]);
     assert!(rt; fault_line(&outcome).as_str() == "bedrock: absent file 1");
-    let outcome = run_plain(alloc, &words(alloc)?, &mut empty, &mut sink);
+    let outcome = asked(alloc, &words(alloc)?, &mut empty, &mut sink);
     assert_eq!(rt; numbers(&outcome), [ABSENT as u64, 1, 0, 0, 0, 0]);
     let mut files = Vec::new(alloc);
     files.push((String::from_str(alloc, "a.bk")?, UNCACHED.to_vec(alloc)?))?;
     let mut no_trace = MemShelf::make(alloc, files, Vec::new(alloc));
-    let outcome = run_plain(alloc, &words(alloc)?, &mut no_trace, &mut sink);
+    let outcome = asked(alloc, &words(alloc)?, &mut no_trace, &mut sink);
     assert_eq!(rt; numbers(&outcome), [ABSENT as u64, 2, 0, 0, 0, 0]);
     assert!(rt; fault_line(&outcome).as_str() == "bedrock: absent file 2");
     let mut failing = shelf(alloc, &MESI, "", vec![in alloc; 1]?)?;
-    let outcome = run_plain(alloc, &verify_words(alloc)?, &mut failing, &mut sink);
+    let outcome = asked(alloc, &verify_words(alloc)?, &mut failing, &mut sink);
     assert_eq!(rt; numbers(&outcome), [READ_FAULT as u64, 1, 0, 0, 0, 0]);
     let (outcome, _sink) = verified(alloc, &Vec::from_elem(alloc, 0, 16_777_217)?)?;
     assert_eq!(rt; numbers(&outcome), [TOO_LONG as u64, 1, 0, 0, 0, 0]);
@@ -429,7 +410,7 @@ fn files_without_bytes(rt: HostRuntime) -> Result<(), Fail> {
 fn said(alloc: Global, words: &[&str], bytes: &[u8]) -> Result<(Outcome, MemSink), Fail> {
     let mut shelf = shelf(alloc, bytes, "", Vec::new(alloc))?;
     let mut sink = sink(alloc);
-    let outcome = run_plain(alloc, &words_of(alloc, words)?, &mut shelf, &mut sink);
+    let outcome = asked(alloc, &words_of(alloc, words)?, &mut shelf, &mut sink);
     Ok((outcome, sink))
 }
 
@@ -508,7 +489,7 @@ fn a_verdict_that_is_not_taken(rt: HostRuntime) -> Result<(), Fail> {
     let alloc = rt.alloc();
     let mut shelf = shelf(alloc, &MESI, "", Vec::new(alloc))?;
     let mut sink = MemSink::make(alloc, 4, vec![in alloc; 2]?);
-    let outcome = run_plain(alloc, &verify_words(alloc)?, &mut shelf, &mut sink);
+    let outcome = asked(alloc, &verify_words(alloc)?, &mut shelf, &mut sink);
     assert_eq!(rt; numbers(&outcome), [WRITE_FAULT as u64, 0, 0, 0, 0, 4]);
     assert!(rt; sink.bytes() == "acce".as_bytes());
     Ok(())

@@ -1,0 +1,226 @@
+//! Replays of the four protocols.
+
+use super::tests::{asked, shelf as shelf_of, sink, words, words_of};
+use super::*;
+use crate::programs::{EI, MESI, MOESIF, MSI};
+use bk_outer::MemSink;
+use std::alloc::Global;
+use std::test::Fail;
+
+/// The report of a protocol's run over a trace, as an independent implementation of the rules prints it.
+struct Row {
+    image: &'static [u8],
+    trace: &'static str,
+    report: &'static str,
+}
+
+const ROWS: [Row; 11] = [
+    // A load is granted E, and the store needs no message.
+    Row {
+        image: &EI,
+        trace: "config 1 1 1\n0 L 0x0\n0 S 0x0 5\n",
+        report: "\
+0 L 0x0 = 0
+0 S 0x0 5
+events issue 2 command 1 fill 0 memory 1 engine 21
+messages request 1 command 1 fill 0 response 1 memout 1 memin 1
+cache 0 set 0 way 0 tag 0x0 M
+end rested
+",
+    },
+    // A block in M is flushed for a load of another cache, and granted in E.
+    Row {
+        image: &EI,
+        trace: "config 2 1 1\n0 S 0x0 5\n1 L 0x0\n",
+        report: "\
+0 S 0x0 5
+1 L 0x0 = 5
+events issue 2 command 3 fill 0 memory 3 engine 58
+messages request 2 command 3 fill 0 response 3 memout 3 memin 2
+cache 1 set 0 way 0 tag 0x0 E
+end rested
+",
+    },
+    // Eight sharers, of which one stores: seven copies are invalidated, and it is woken.
+    Row {
+        image: &MSI,
+        trace: "config 8 1 1\n0 L 0x0\n1 L 0x0\n2 L 0x0\n3 L 0x0\n4 L 0x0\n5 L 0x0\n6 L 0x0\n7 L 0x0\n7 S 0x0 9\n",
+        report: "\
+0 L 0x0 = 0
+1 L 0x0 = 0
+2 L 0x0 = 0
+3 L 0x0 = 0
+4 L 0x0 = 0
+5 L 0x0 = 0
+6 L 0x0 = 0
+7 L 0x0 = 0
+7 S 0x0 9
+events issue 9 command 16 fill 0 memory 8 engine 236
+messages request 9 command 16 fill 0 response 16 memout 8 memin 8
+cache 7 set 0 way 0 tag 0x0 M
+end rested
+",
+    },
+    // A victim in S is dropped without a message.
+    Row {
+        image: &MSI,
+        trace: "config 1 1 1\n0 L 0x0\n0 L 0x40\n",
+        report: "\
+0 L 0x0 = 0
+0 L 0x40 = 0
+events issue 2 command 2 fill 0 memory 2 engine 40
+messages request 2 command 2 fill 0 response 2 memout 2 memin 2
+cache 0 set 0 way 0 tag 0x1 S
+end rested
+",
+    },
+    // Two operations past the caches: the second request finds its group pending, and is deferred.
+    Row {
+        image: &MESI,
+        trace: "config 2 4 2\n0 US 0x40 7\n1 UL 0x40\n",
+        report: "\
+0 US 0x40 7
+1 UL 0x40 = 7
+events issue 2 command 2 fill 0 memory 2 engine 47
+messages request 2 command 2 fill 0 response 2 memout 2 memin 1
+end rested
+",
+    },
+    // The victim is dirty at each later miss.
+    Row {
+        image: &MESI,
+        trace: "config 1 1 1\n0 S 0x0 1\n0 S 0x40 2\n0 L 0x0\n",
+        report: "\
+0 S 0x0 1
+0 S 0x40 2
+0 L 0x0 = 1
+events issue 3 command 5 fill 0 memory 5 engine 85
+messages request 3 command 5 fill 0 response 5 memout 5 memin 3
+cache 0 set 0 way 0 tag 0x0 E
+end rested
+",
+    },
+    // A store into E needs no message, and the other load finds M under the directory's E.
+    Row {
+        image: &MESI,
+        trace: "config 2 4 2\n0 L 0x0\n0 S 0x0 5\n1 L 0x0\n",
+        report: "\
+0 L 0x0 = 0
+0 S 0x0 5
+1 L 0x0 = 5
+events issue 3 command 3 fill 0 memory 3 engine 56
+messages request 2 command 3 fill 0 response 3 memout 3 memin 2
+cache 0 set 0 way 0 tag 0x0 S
+cache 1 set 0 way 0 tag 0x0 S
+end rested
+",
+    },
+    // A load past the caches flushes the copy.
+    Row {
+        image: &MESI,
+        trace: "config 1 1 1\n0 S 0x0 5\n0 UL 0x0\n",
+        report: "\
+0 S 0x0 5
+0 UL 0x0 = 5
+events issue 2 command 3 fill 0 memory 3 engine 59
+messages request 2 command 3 fill 0 response 3 memout 3 memin 2
+cache 0 set 0 way 0 tag 0x0 S
+end rested
+",
+    },
+    // A block is given up; of one that isn't there nothing is asked.
+    Row {
+        image: &MESI,
+        trace: "config 1 1 1\n0 S 0x0 5\n0 EV 0x0\n0 EV 0x0\n",
+        report: "\
+0 S 0x0 5
+0 EV 0x0
+0 EV 0x0
+events issue 3 command 3 fill 0 memory 2 engine 56
+messages request 2 command 3 fill 0 response 3 memout 2 memin 1
+end rested
+",
+    },
+    // The highest address.
+    Row {
+        image: &MESI,
+        trace: "config 1 64 8\n0 S 0xfffffffff8 1\n",
+        report: "\
+0 S 0xfffffffff8 1
+events issue 1 command 1 fill 0 memory 1 engine 23
+messages request 1 command 1 fill 0 response 1 memout 1 memin 1
+cache 0 set 63 way 0 tag 0xfffffff M
+end rested
+",
+    },
+    // The owner fills the other cache, keeps the block in O, and memory is not written.
+    Row {
+        image: &MOESIF,
+        trace: "config 2 4 2\n0 L 0x0\n0 S 0x0 5\n1 L 0x0\n",
+        report: "\
+0 L 0x0 = 0
+0 S 0x0 5
+1 L 0x0 = 5
+events issue 3 command 2 fill 1 memory 1 engine 43
+messages request 2 command 2 fill 1 response 2 memout 1 memin 1
+cache 0 set 0 way 0 tag 0x0 O
+cache 1 set 0 way 0 tag 0x0 S
+end rested
+",
+    },
+];
+
+#[test]
+fn reports_of_protocols(rt: HostRuntime) -> Result<(), Fail> {
+    let alloc = rt.alloc();
+    for row in &ROWS {
+        let mut shelf = shelf_of(alloc, row.image, row.trace, Vec::new(alloc))?;
+        let mut sink = sink(alloc);
+        let outcome = asked(alloc, &words(alloc)?, &mut shelf, &mut sink);
+        assert_eq!(rt; outcome.status, OK);
+        assert!(rt; sink.bytes() == row.report.as_bytes(), "{}", row.trace);
+    }
+    Ok(())
+}
+
+#[test]
+fn a_log_of_messages(rt: HostRuntime) -> Result<(), Fail> {
+    let alloc = rt.alloc();
+    let trace = "config 2 4 2\n0 US 0x40 7\n1 UL 0x40\n";
+    let mut shelf = shelf_of(alloc, &MESI, trace, Vec::new(alloc))?;
+    let mut sink = sink(alloc);
+    let words = words_of(alloc, &["replay", "log", "a.bk", "b.trace"])?;
+    let outcome = asked(alloc, &words, &mut shelf, &mut sink);
+    assert_eq!(rt; outcome.status, OK);
+    let beginning = "I 0 US 0x40 7 0\nm 0400f0000000000040000000000000000700000000000000\n";
+    assert!(rt; sink.bytes().starts_with(beginning.as_bytes()));
+    Ok(())
+}
+
+/// A trace of 5,000 operations on four caches, drawn from 7.
+fn drawn(alloc: Global) -> Result<Vec<u8>, Fail> {
+    let mut shelf = shelf_of(alloc, &[], "", Vec::new(alloc))?;
+    let mut sink = MemSink::make(alloc, 1_000_000, Vec::new(alloc));
+    let words = words_of(alloc, &["gen", "7", "4", "16", "4", "5000"])?;
+    let _outcome = asked(alloc, &words, &mut shelf, &mut sink);
+    Ok(sink.bytes().to_vec(alloc)?)
+}
+
+/// The report of `moesif` over that trace.
+fn report_of_drawn(alloc: Global) -> Result<Vec<u8>, Fail> {
+    let trace = drawn(alloc)?;
+    let text = std::str::from_utf8(&trace)?;
+    let mut shelf = shelf_of(alloc, &MOESIF, text, Vec::new(alloc))?;
+    let mut sink = MemSink::make(alloc, 1_000_000, Vec::new(alloc));
+    let _outcome = asked(alloc, &words(alloc)?, &mut shelf, &mut sink);
+    Ok(sink.bytes().to_vec(alloc)?)
+}
+
+#[test]
+fn a_large_run_is_the_same_again(rt: HostRuntime) -> Result<(), Fail> {
+    let alloc = rt.alloc();
+    let first = report_of_drawn(alloc)?;
+    assert!(rt; first.ends_with("end rested\n".as_bytes()));
+    assert!(rt; first == report_of_drawn(alloc)?);
+    Ok(())
+}
