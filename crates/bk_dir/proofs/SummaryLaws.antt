@@ -9,7 +9,7 @@ use Rattle.bk_base.specs.declared.coh.Coh.{Coh}
 use Rattle.bk_base.specs.declared.coh.Coh.TheVariants.{I, S}
 use Rattle.bk_base.proofs.Below.{least_below-none, least_below-some, first_below-none, first_below-some}
 use Rattle.bk_dir.proofs.Bits.{bits-small, bits-say}
-use Rattle.bk_dir.proofs.Tests.{holds_at, answers_at, shares_at}
+use Rattle.bk_dir.proofs.EntryTests.{holds_at, answers_at, shares_at}
 use Rattle.bk_dir.specs.declared.entry.Entry.{Entry}
 use Rattle.bk_dir.specs.declared.entry.Asked.{Asked}
 use Rattle.bk_dir.specs.declared.entry.Summary.{Summary}

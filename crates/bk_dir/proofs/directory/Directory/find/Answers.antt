@@ -3,7 +3,7 @@ use Rattle.bk_base.proofs.Below.{least_below-found}
 use Rattle.bk_dir.specs.declared.entry.Entry.{Entry}
 use Rattle.bk_dir.specs.Directories.{contents_of}
 use Rattle.bk_dir.specs.Summaries.{holds}
-use Rattle.bk_dir.proofs.Tests.{holds_at}
+use Rattle.bk_dir.proofs.EntryTests.{holds_at}
 use Rattle.bk_dir.proofs.directory.Directory.find.Goals as goal
 
 pub returns-then-holds-clause-value : goal.returns-then-holds-clause-value

@@ -5,7 +5,7 @@ use Rattle.bk_base.specs.States.{is_owner_like}
 use Rattle.bk_dir.specs.declared.entry.Entry.{Entry}
 use Rattle.bk_dir.specs.Directories.{contents_of}
 use Rattle.bk_dir.specs.Summaries.{holds}
-use Rattle.bk_dir.proofs.Tests.{answers_at}
+use Rattle.bk_dir.proofs.EntryTests.{answers_at}
 use Rattle.bk_dir.proofs.directory.Directory.owner_way.Goals as goal
 
 pub returns-then-answers-clause-value : goal.returns-then-answers-clause-value

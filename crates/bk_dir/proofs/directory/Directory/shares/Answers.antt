@@ -4,7 +4,7 @@ use Rattle.bk_base.proofs.Below.{least_below-found}
 use Rattle.bk_dir.specs.declared.entry.Entry.{Entry}
 use Rattle.bk_dir.specs.Directories.{contents_of}
 use Rattle.bk_dir.specs.Summaries.{holds, is_shared}
-use Rattle.bk_dir.proofs.Tests.{shares_at}
+use Rattle.bk_dir.proofs.EntryTests.{shares_at}
 use Rattle.bk_dir.proofs.directory.Directory.shares.Goals as goal
 
 pub returns-then-is_sharer : goal.returns-then-is_sharer
