@@ -1,3 +1,9 @@
+pub mod Changes
 pub mod Core
-pub mod Groups
+pub mod Engines
+pub mod Heads
+pub mod Kept
+pub mod Reads
+pub mod Sends
 pub mod Step
+pub mod Stops

@@ -1,0 +1,4 @@
+pub mod CacheState
+pub mod CacheTable
+pub mod Kept
+pub mod Policies
