@@ -1,6 +1,11 @@
+pub mod Computed
 pub mod Drafted
 pub mod Entries
+pub mod Fitting
+pub mod FormAgain
 pub mod InRange
+pub mod KnowAgain
 pub mod LabelPlaces
 pub mod Named
+pub mod Sentences
 pub mod Texts

@@ -1,7 +1,11 @@
 ghost use Rattle.std.specs.Prelude.{◌≡◌, ◌++◌, map, true, IfOk, OnOk, string_bytes};
 ghost use Rattle.std.specs.List.{list_any};
 ghost use Rattle.bk_isa.specs.Fields.{fields_of};
+ghost use Rattle.bk_image.specs.Images.{Parts};
+ghost use Rattle.bk_image.specs.Spelling.{IsImage};
+ghost use Rattle.bk_asm.specs.Again.{all_inside, IsAgain};
 ghost use Rattle.bk_asm.specs.Ranges.{is_target};
+ghost use Rattle.bk_asm.specs.Reading.{image_at};
 ghost use Rattle.bk_asm.specs.Writing.{name_of, is_in, set_text, slot_text, label_text, last_text, form_text, field_text, fields_text, based_text, know_text, know_line_text, goes_to, label_line, form_line, place_text, spelling};
 
 use crate::mnemonic::{mnemonic, operation_of};
@@ -288,3 +292,9 @@ pub fn disassemble(alloc: Global, image: &Image) -> Result<Vec<u8>, AllocError>
     push_places(&mut out, image)?;
     Ok(out.into_bytes())
 }
+
+/// The canonical text of an image is read as that image where each branch goes to a place; else a label is defined nowhere, and
+/// the fault is of kind 26.
+pub fn canonical_text_again()
+    ensures { (x : Parts) → IsImage x → IsAgain (all_inside x.instrs) x (image_at (spelling x)) }
+{}

@@ -1,0 +1,247 @@
+-- The operands of an instruction are in the ranges of its slots.
+use Rattle.std.proofs.Common.{◌≡◌, ℕ, ◌+◌, ◌<◌, Bool, true, false, not, ◌&&◌, ◌||◌, ◌==◌, Option, Some, None, List, [], ◌∷◌, refl, sym, ap, ◌∙◌, inl, inr, arith}
+use Rattle.std.specs.Prelude.{nat_lt}
+use Rattle.std.proofs.lemmas.Bool.Decides.{nat_tests}
+use Rattle.bk_isa.specs.declared.form.Form.{Form}
+use Rattle.bk_isa.specs.declared.form.Form.TheVariants as forms
+use Rattle.bk_isa.specs.declared.fields.Fields.{Fields}
+use Rattle.bk_isa.specs.declared.fault.WordFault.{WordFault}
+use Rattle.bk_isa.specs.declared.table.Allowed.{Allowed}
+use Rattle.bk_isa.specs.declared.table.Row.{Row}
+use Rattle.bk_isa.specs.Fields.{fields_of}
+use Rattle.bk_isa.specs.Table.{admits, first_fault, fault_by, fault_in, row_of, tested, value_set, target}
+use Rattle.bk_isa.specs.Words.{IsInRange}
+use Rattle.bk_isa.proofs.Admitted.{AdmitsAll, AdmitsAll-from_none}
+use Rattle.bk_asm.specs.Operations.{shape, opcode}
+use Rattle.bk_asm.specs.Mnemonics.{operation_of}
+use Rattle.bk_asm.specs.Ranges.{is_value, slot_ok, last_ok, limit_of}
+use Rattle.bk_asm.specs.declared.names.Names.{Names}
+use Rattle.bk_asm.specs.declared.names.Names.TheVariants as names
+use Rattle.bk_asm.specs.declared.operation.Operation.{Operation}
+use Rattle.bk_asm.specs.declared.operation.Operation.TheVariants as operations
+use Rattle.bk_asm.specs.declared.operation.Slot.{Slot}
+use Rattle.bk_asm.specs.declared.operation.Slot.TheVariants as slots
+use Rattle.bk_asm.specs.declared.operation.Last.{Last}
+use Rattle.bk_asm.specs.declared.operation.Last.TheVariants as lasts
+use Rattle.bk_asm.proofs.Named.{and_parts}
+use Rattle.bk_asm.proofs.InRange.{allowed, allowed_slot, allowed_last, row, the_row}
+use Rattle.bk_asm.proofs.Computed.{each_below, at_below}
+
+-- each operand is one of its slot
+pub record Fits (o : Operation) (p : Fields) : Type 0 where
+  pub a : slot_ok (shape o).a 0 p.a ≡ true
+  pub b : slot_ok (shape o).b p.a p.b ≡ true
+  pub c : slot_ok (shape o).c p.a p.c ≡ true
+  pub last : last_ok (shape o).last p.imm ≡ true
+
+-- a number of a name is below 32
+bounded : (sort : Names) (n : ℕ) → admits (allowed sort) n ≡ true → n < 32
+bounded names.Register n e = grind (arith, nat_tests, e)
+bounded names.Flag n e = grind (arith, nat_tests, e)
+bounded names.State n e = grind (arith, nat_tests, e)
+bounded names.Valid n e = grind (arith, nat_tests, e)
+bounded names.Clean n e = grind (arith, nat_tests, e)
+bounded names.Granted n e = grind (arith, nat_tests, e)
+bounded names.Left n e = grind (arith, nat_tests, e)
+bounded names.Received n e = grind (arith, nat_tests, e)
+bounded names.Whose n e = grind (arith, nat_tests, e)
+bounded names.Holder n e = grind (arith, nat_tests, e)
+bounded names.Pending n e = grind (arith, nat_tests, e)
+bounded names.Owner n e = grind (arith, nat_tests, e)
+bounded names.Tested n e = grind (arith, nat_tests, e)
+bounded names.Field n e = grind (arith, nat_tests, e)
+
+-- what the table of words admits for a name is the number of one
+abbrev is_exact : Names → Bool
+is_exact sort = each_below (λ n. not (admits (allowed sort) n) || is_value sort n) 32
+
+abbrev is_slot : Slot → Bool
+is_slot slots.Nothing = true
+is_slot (slots.Name sort) = is_exact sort
+is_slot (slots.Perhaps sort) = each_below (λ n. not (admits (allowed sort) n) || (n == 0 || is_value sort n)) 32
+is_slot slots.Classes = true
+is_slot slots.Values = true
+
+modus : (a b : Bool) → not a || b ≡ true → a ≡ true → b ≡ true
+modus true b e f = e
+modus false b e f = absurd cc
+
+slot_from : (slot : Slot) (f n : ℕ) → is_slot slot ≡ true → admits (allowed_slot slot f) n ≡ true → slot_ok slot f n ≡ true
+slot_from slots.Nothing f n z e = e
+slot_from (slots.Name sort) f n z e = modus (admits (allowed sort) n) (is_value sort n) (at_below (λ n. not (admits (allowed sort) n) || is_value sort n) 32 n z (bounded sort n e)) e
+slot_from (slots.Perhaps sort) f n z e =
+    modus (admits (allowed sort) n) (n == 0 || is_value sort n) (at_below (λ n. not (admits (allowed sort) n) || (n == 0 || is_value sort n)) 32 n z (bounded sort n e)) e
+slot_from slots.Classes f n z e = grind (arith, nat_tests, e)
+slot_from slots.Values f n z e = grind (arith, nat_tests, e)
+
+last_from : (last : Last) (n : ℕ) → admits (allowed_last last) n ≡ true → last_ok last n ≡ true
+last_from lasts.Nothing n e = e
+last_from lasts.Shift n e = grind (arith, nat_tests, e)
+last_from lasts.Number n e = grind (arith, nat_tests, e)
+last_from lasts.Target n e = grind (arith, nat_tests, e)
+
+are_slots : (o : Operation) → (is_slot (shape o).a ≡ true) × (is_slot (shape o).b ≡ true) × (is_slot (shape o).c ≡ true)
+are_slots operations.Nop = (refl, refl, refl)
+are_slots operations.Add = (refl, refl, refl)
+are_slots operations.Sub = (refl, refl, refl)
+are_slots operations.And = (refl, refl, refl)
+are_slots operations.Or = (refl, refl, refl)
+are_slots operations.Xor = (refl, refl, refl)
+are_slots operations.Shl = (refl, refl, refl)
+are_slots operations.Shr = (refl, refl, refl)
+are_slots operations.Addi = (refl, refl, refl)
+are_slots operations.Not = (refl, refl, refl)
+are_slots operations.Neg = (refl, refl, refl)
+are_slots operations.Mov = (refl, refl, refl)
+are_slots operations.Movi = (refl, refl, refl)
+are_slots operations.Mova = (refl, refl, refl)
+are_slots operations.Movs = (refl, refl, refl)
+are_slots operations.Movw = (refl, refl, refl)
+are_slots operations.Movk = (refl, refl, refl)
+are_slots operations.Bi = (refl, refl, refl)
+are_slots operations.Beq = (refl, refl, refl)
+are_slots operations.Bne = (refl, refl, refl)
+are_slots operations.Blt = (refl, refl, refl)
+are_slots operations.Bge = (refl, refl, refl)
+are_slots operations.Bk = (refl, refl, refl)
+are_slots operations.Sf = (refl, refl, refl)
+are_slots operations.Cf = (refl, refl, refl)
+are_slots operations.Nf = (refl, refl, refl)
+are_slots operations.Movf = (refl, refl, refl)
+are_slots operations.Andf = (refl, refl, refl)
+are_slots operations.Orf = (refl, refl, refl)
+are_slots operations.Rdw = (refl, refl, refl)
+are_slots operations.Gad = (refl, refl, refl)
+are_slots operations.Wde = (refl, refl, refl)
+are_slots operations.Wds = (refl, refl, refl)
+are_slots operations.Fin = (refl, refl, refl)
+are_slots operations.Wfq = (refl, refl, refl)
+are_slots operations.Popq = (refl, refl, refl)
+are_slots operations.Defer = (refl, refl, refl)
+are_slots operations.Inv = (refl, refl, refl)
+are_slots operations.Stwb = (refl, refl, refl)
+are_slots operations.Blk = (refl, refl, refl)
+are_slots operations.Wake = (refl, refl, refl)
+are_slots operations.Tr = (refl, refl, refl)
+are_slots operations.Ucblk = (refl, refl, refl)
+are_slots operations.Ucdone = (refl, refl, refl)
+are_slots operations.Done = (refl, refl, refl)
+are_slots operations.Memrd = (refl, refl, refl)
+are_slots operations.Memwb = (refl, refl, refl)
+are_slots operations.Memww = (refl, refl, refl)
+
+-- the first field of an operation's row in the table of words
+first_of_row : (o : Operation) (a : ℕ) → (b : Allowed) × (c : Allowed) × (imm : Allowed) × (row_of (opcode o) a ≡ Some (row (allowed_slot (shape o).a 0) b c imm))
+first_of_row operations.Nop a = (allowed_slot (shape operations.Nop).b a, allowed_slot (shape operations.Nop).c a, allowed_last (shape operations.Nop).last, refl)
+first_of_row operations.Add a = (allowed_slot (shape operations.Add).b a, allowed_slot (shape operations.Add).c a, allowed_last (shape operations.Add).last, refl)
+first_of_row operations.Sub a = (allowed_slot (shape operations.Sub).b a, allowed_slot (shape operations.Sub).c a, allowed_last (shape operations.Sub).last, refl)
+first_of_row operations.And a = (allowed_slot (shape operations.And).b a, allowed_slot (shape operations.And).c a, allowed_last (shape operations.And).last, refl)
+first_of_row operations.Or a = (allowed_slot (shape operations.Or).b a, allowed_slot (shape operations.Or).c a, allowed_last (shape operations.Or).last, refl)
+first_of_row operations.Xor a = (allowed_slot (shape operations.Xor).b a, allowed_slot (shape operations.Xor).c a, allowed_last (shape operations.Xor).last, refl)
+first_of_row operations.Shl a = (allowed_slot (shape operations.Shl).b a, allowed_slot (shape operations.Shl).c a, allowed_last (shape operations.Shl).last, refl)
+first_of_row operations.Shr a = (allowed_slot (shape operations.Shr).b a, allowed_slot (shape operations.Shr).c a, allowed_last (shape operations.Shr).last, refl)
+first_of_row operations.Addi a = (allowed_slot (shape operations.Addi).b a, allowed_slot (shape operations.Addi).c a, allowed_last (shape operations.Addi).last, refl)
+first_of_row operations.Not a = (allowed_slot (shape operations.Not).b a, allowed_slot (shape operations.Not).c a, allowed_last (shape operations.Not).last, refl)
+first_of_row operations.Neg a = (allowed_slot (shape operations.Neg).b a, allowed_slot (shape operations.Neg).c a, allowed_last (shape operations.Neg).last, refl)
+first_of_row operations.Mov a = (allowed_slot (shape operations.Mov).b a, allowed_slot (shape operations.Mov).c a, allowed_last (shape operations.Mov).last, refl)
+first_of_row operations.Movi a = (allowed_slot (shape operations.Movi).b a, allowed_slot (shape operations.Movi).c a, allowed_last (shape operations.Movi).last, refl)
+first_of_row operations.Mova a = (allowed_slot (shape operations.Mova).b a, allowed_slot (shape operations.Mova).c a, allowed_last (shape operations.Mova).last, refl)
+first_of_row operations.Movs a = (allowed_slot (shape operations.Movs).b a, allowed_slot (shape operations.Movs).c a, allowed_last (shape operations.Movs).last, refl)
+first_of_row operations.Movw a = (allowed_slot (shape operations.Movw).b a, allowed_slot (shape operations.Movw).c a, allowed_last (shape operations.Movw).last, refl)
+first_of_row operations.Movk a = (allowed_slot (shape operations.Movk).b a, allowed_slot (shape operations.Movk).c a, allowed_last (shape operations.Movk).last, refl)
+first_of_row operations.Bi a = (allowed_slot (shape operations.Bi).b a, allowed_slot (shape operations.Bi).c a, allowed_last (shape operations.Bi).last, refl)
+first_of_row operations.Beq a = (allowed_slot (shape operations.Beq).b a, allowed_slot (shape operations.Beq).c a, allowed_last (shape operations.Beq).last, refl)
+first_of_row operations.Bne a = (allowed_slot (shape operations.Bne).b a, allowed_slot (shape operations.Bne).c a, allowed_last (shape operations.Bne).last, refl)
+first_of_row operations.Blt a = (allowed_slot (shape operations.Blt).b a, allowed_slot (shape operations.Blt).c a, allowed_last (shape operations.Blt).last, refl)
+first_of_row operations.Bge a = (allowed_slot (shape operations.Bge).b a, allowed_slot (shape operations.Bge).c a, allowed_last (shape operations.Bge).last, refl)
+first_of_row operations.Bk a = (value_set a, allowed_slot slots.Nothing a, target, refl)
+first_of_row operations.Sf a = (allowed_slot (shape operations.Sf).b a, allowed_slot (shape operations.Sf).c a, allowed_last (shape operations.Sf).last, refl)
+first_of_row operations.Cf a = (allowed_slot (shape operations.Cf).b a, allowed_slot (shape operations.Cf).c a, allowed_last (shape operations.Cf).last, refl)
+first_of_row operations.Nf a = (allowed_slot (shape operations.Nf).b a, allowed_slot (shape operations.Nf).c a, allowed_last (shape operations.Nf).last, refl)
+first_of_row operations.Movf a = (allowed_slot (shape operations.Movf).b a, allowed_slot (shape operations.Movf).c a, allowed_last (shape operations.Movf).last, refl)
+first_of_row operations.Andf a = (allowed_slot (shape operations.Andf).b a, allowed_slot (shape operations.Andf).c a, allowed_last (shape operations.Andf).last, refl)
+first_of_row operations.Orf a = (allowed_slot (shape operations.Orf).b a, allowed_slot (shape operations.Orf).c a, allowed_last (shape operations.Orf).last, refl)
+first_of_row operations.Rdw a = (allowed_slot (shape operations.Rdw).b a, allowed_slot (shape operations.Rdw).c a, allowed_last (shape operations.Rdw).last, refl)
+first_of_row operations.Gad a = (allowed_slot (shape operations.Gad).b a, allowed_slot (shape operations.Gad).c a, allowed_last (shape operations.Gad).last, refl)
+first_of_row operations.Wde a = (allowed_slot (shape operations.Wde).b a, allowed_slot (shape operations.Wde).c a, allowed_last (shape operations.Wde).last, refl)
+first_of_row operations.Wds a = (allowed_slot (shape operations.Wds).b a, allowed_slot (shape operations.Wds).c a, allowed_last (shape operations.Wds).last, refl)
+first_of_row operations.Fin a = (allowed_slot (shape operations.Fin).b a, allowed_slot (shape operations.Fin).c a, allowed_last (shape operations.Fin).last, refl)
+first_of_row operations.Wfq a = (allowed_slot (shape operations.Wfq).b a, allowed_slot (shape operations.Wfq).c a, allowed_last (shape operations.Wfq).last, refl)
+first_of_row operations.Popq a = (allowed_slot (shape operations.Popq).b a, allowed_slot (shape operations.Popq).c a, allowed_last (shape operations.Popq).last, refl)
+first_of_row operations.Defer a = (allowed_slot (shape operations.Defer).b a, allowed_slot (shape operations.Defer).c a, allowed_last (shape operations.Defer).last, refl)
+first_of_row operations.Inv a = (allowed_slot (shape operations.Inv).b a, allowed_slot (shape operations.Inv).c a, allowed_last (shape operations.Inv).last, refl)
+first_of_row operations.Stwb a = (allowed_slot (shape operations.Stwb).b a, allowed_slot (shape operations.Stwb).c a, allowed_last (shape operations.Stwb).last, refl)
+first_of_row operations.Blk a = (allowed_slot (shape operations.Blk).b a, allowed_slot (shape operations.Blk).c a, allowed_last (shape operations.Blk).last, refl)
+first_of_row operations.Wake a = (allowed_slot (shape operations.Wake).b a, allowed_slot (shape operations.Wake).c a, allowed_last (shape operations.Wake).last, refl)
+first_of_row operations.Tr a = (allowed_slot (shape operations.Tr).b a, allowed_slot (shape operations.Tr).c a, allowed_last (shape operations.Tr).last, refl)
+first_of_row operations.Ucblk a = (allowed_slot (shape operations.Ucblk).b a, allowed_slot (shape operations.Ucblk).c a, allowed_last (shape operations.Ucblk).last, refl)
+first_of_row operations.Ucdone a = (allowed_slot (shape operations.Ucdone).b a, allowed_slot (shape operations.Ucdone).c a, allowed_last (shape operations.Ucdone).last, refl)
+first_of_row operations.Done a = (allowed_slot (shape operations.Done).b a, allowed_slot (shape operations.Done).c a, allowed_last (shape operations.Done).last, refl)
+first_of_row operations.Memrd a = (allowed_slot (shape operations.Memrd).b a, allowed_slot (shape operations.Memrd).c a, allowed_last (shape operations.Memrd).last, refl)
+first_of_row operations.Memwb a = (allowed_slot (shape operations.Memwb).b a, allowed_slot (shape operations.Memwb).c a, allowed_last (shape operations.Memwb).last, refl)
+first_of_row operations.Memww a = (allowed_slot (shape operations.Memww).b a, allowed_slot (shape operations.Memww).c a, allowed_last (shape operations.Memww).last, refl)
+
+-- the operation of a form has the code that the form's word has
+code_is : (f : Form) → (fields_of f).op ≡ opcode (operation_of f)
+code_is forms.Nop = refl
+code_is (forms.Add a b c) = refl
+code_is (forms.Sub a b c) = refl
+code_is (forms.And a b c) = refl
+code_is (forms.Or a b c) = refl
+code_is (forms.Xor a b c) = refl
+code_is (forms.Shl a b imm) = refl
+code_is (forms.Shr a b imm) = refl
+code_is (forms.Addi a b imm) = refl
+code_is (forms.Not a b) = refl
+code_is (forms.Neg a b) = refl
+code_is (forms.Mov a b) = refl
+code_is (forms.Movi a imm) = refl
+code_is (forms.Mova a) = refl
+code_is (forms.Movs a) = refl
+code_is (forms.Movw a) = refl
+code_is (forms.Movk a) = refl
+code_is (forms.Bi imm) = refl
+code_is (forms.Beq a b imm) = refl
+code_is (forms.Bne a b imm) = refl
+code_is (forms.Blt a b imm) = refl
+code_is (forms.Bge a b imm) = refl
+code_is (forms.Bk a b imm) = refl
+code_is (forms.Sf a) = refl
+code_is (forms.Cf a) = refl
+code_is (forms.Nf a) = refl
+code_is (forms.Movf a b) = refl
+code_is (forms.Andf a b) = refl
+code_is (forms.Orf a b) = refl
+code_is forms.Rdw = refl
+code_is forms.Gad = refl
+code_is (forms.Wde a) = refl
+code_is (forms.Wds a b) = refl
+code_is forms.Fin = refl
+code_is (forms.Wfq a) = refl
+code_is (forms.Popq a) = refl
+code_is forms.Defer = refl
+code_is (forms.Inv a) = refl
+code_is (forms.Stwb a b) = refl
+code_is (forms.Blk a) = refl
+code_is forms.Wake = refl
+code_is (forms.Tr a b) = refl
+code_is forms.Ucblk = refl
+code_is forms.Ucdone = refl
+code_is forms.Done = refl
+code_is forms.Memrd = refl
+code_is forms.Memwb = refl
+code_is forms.Memww = refl
+
+fits_by : (o : Operation) (p : Fields) → fault_by p (row_of (opcode o) p.a) ≡ None → Fits o p
+fits_by o p e =
+    let s = are_slots o in
+    let r = first_of_row o p.a in
+    let one = AdmitsAll-from_none (row (allowed_slot (shape o).a 0) r.0 r.1 r.2) p (sym (ap (fault_by p) r.3) ∙ e) in
+    let a = slot_from (shape o).a 0 p.a s.0 one.a in
+    let all = AdmitsAll-from_none (row (allowed_slot (shape o).a 0) (allowed_slot (shape o).b p.a) (allowed_slot (shape o).c p.a) (allowed_last (shape o).last)) p
+      (sym (ap (fault_by p) (the_row o p.a a)) ∙ e) in
+    record { a = a; b = slot_from (shape o).b p.a p.b s.1 all.b; c = slot_from (shape o).c p.a p.c s.2 all.c; last = last_from (shape o).last p.imm all.imm }
+
+-- an instruction's operands fit its operation
+pub fits : (f : Form) → IsInRange f → Fits (operation_of f) (fields_of f)
+fits f h = fits_by (operation_of f) (fields_of f) (ap (λ op. fault_by (fields_of f) (row_of op (fields_of f).a)) (sym (code_is f)) ∙ h.row)
