@@ -182,7 +182,7 @@ first_of_row operations.Memwb a = (allowed_slot (shape operations.Memwb).b a, al
 first_of_row operations.Memww a = (allowed_slot (shape operations.Memww).b a, allowed_slot (shape operations.Memww).c a, allowed_last (shape operations.Memww).last, refl)
 
 -- the operation of a form has the code that the form's word has
-code_is : (f : Form) → (fields_of f).op ≡ opcode (operation_of f)
+pub code_is : (f : Form) → (fields_of f).op ≡ opcode (operation_of f)
 code_is forms.Nop = refl
 code_is (forms.Add a b c) = refl
 code_is (forms.Sub a b c) = refl

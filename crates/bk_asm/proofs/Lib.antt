@@ -6,6 +6,8 @@ pub mod FormAgain
 pub mod InRange
 pub mod KnowAgain
 pub mod LabelPlaces
+pub mod LabelsAgain
 pub mod Named
+pub mod PlacesAgain
 pub mod Sentences
 pub mod Texts
