@@ -1,5 +1,5 @@
 -- The canonical text of an image is read as that image.
-use Rattle.std.proofs.Common.{◌≡◌, ℕ, ◌+◌, ◌<◌, ◌≤◌, Bool, true, false, not, ◌&&◌, ◌||◌, ◌==◌, cond, Option, Some, None, Result, Ok, Err, List, [], ◌∷◌, ◌++◌, length, refl, sym, ap, subst, ◌∙◌, append_assoc, inl, inr, arith}
+use Rattle.std.proofs.Common.{◌≡◌, ℕ, ◌+◌, ◌<◌, ◌≤◌, Bool, true, false, not, ◌&&◌, ◌||◌, ◌==◌, cond, Option, Some, None, Result, Ok, Err, List, [], ◌∷◌, ◌++◌, length, get_or, take, drop, drop-cons, add-one, suc, refl, sym, ap, subst, ◌∙◌, append_assoc, inl, inr, arith}
 use Rattle.std.specs.Prelude.{codes, nat_lt, nat_le, is_some, max, IfSome}
 use Rattle.std.specs.List.{list_all, list_any, AllByRecursion}
 use Rattle.std.specs.Ordering.{nat_cmp}
@@ -8,7 +8,7 @@ use Rattle.std.specs.BTreeMap.{insert_entry}
 use Rattle.std.specs.Str.Lines.{lines}
 use Rattle.std.proofs.lemmas.Bool.{eqb-true}
 use Rattle.std.proofs.lemmas.Bool.Decides.{nat_tests}
-use Rattle.std.proofs.lemmas.List.{append-nil, length_push, length-append}
+use Rattle.std.proofs.lemmas.List.{append-nil, length_push, length-append, take_all, take_more}
 use Rattle.bk_isa.specs.declared.form.Form.{Form}
 use Rattle.bk_isa.specs.Fields.{fields_of}
 use Rattle.bk_isa.specs.Words.{IsInRange}
@@ -208,6 +208,53 @@ known_mask : (ks : List Line) (p : ℕ) (s : Sets) → AllByRecursion HasMask ks
 known_mask [] p s h e = absurd cc
 known_mask (k ∷ ks) p s h e = mask_by (k.0 == p) k s (known ks p) h.0 (known_mask ks p s h.1) e
 
+ranges_append : (fs : List Form) (f : Form) → AllByRecursion IsInRange fs → IsInRange f → AllByRecursion IsInRange (fs ++ f ∷ [])
+ranges_append [] f h one = (one, tt)
+ranges_append (g ∷ fs) f h one = (h.0, ranges_append fs f h.1 one)
+
+-- one more instruction is in range
+pub ranges_more : (fs : List Form) (f : Form) (i : ℕ) → i < length fs → f ≡ get_or fs i f → AllByRecursion IsInRange (take i fs) → IsInRange f → AllByRecursion IsInRange (take (i + 1) fs)
+ranges_more fs f i lt is h one =
+    let grows : take (i + 1) fs ≡ take i fs ++ f ∷ [] = take_more fs i f lt ∙ ap (λ (g : Form). take i fs ++ g ∷ []) (sym is) in
+    subst (λ (gs : List Form). AllByRecursion IsInRange gs) (sym grows) (ranges_append (take i fs) f h one)
+
+-- the know lines of the first places are masks
+abbrev pub AreMasks : List Line → ℕ → Type 0
+AreMasks ks p = (q : ℕ) → q < p → IfSome (known ks q) (λ s. IsKnow s)
+
+pub no_masks : (ks : List Line) → AreMasks ks 0
+no_masks ks q lt = absurd (omega (arith, lt))
+
+pub one_mask : (ks : List Line) (p : ℕ) → AreMasks ks p → IfSome (known ks p) (λ s. IsKnow s) → AreMasks ks (p + 1)
+one_mask ks p h one q lt = elim (tested (q == p)) [
+  | inl is ↦ subst (λ (k : ℕ). IfSome (known ks k) (λ s. IsKnow s)) (sym (eqb-true q p is)) one
+  | inr not ↦ h q (grind (arith, nat_tests, lt, not))
+]
+
+mask_at : (o : Option Sets) (s : Sets) → o ≡ Some s → IfSome o (λ s. IsKnow s) → IsKnow s
+mask_at o s e h = (rw e at h)
+
+mask_if : (o p : Option Sets) → o ≡ p → IfSome o (λ s. IsKnow s) → IfSome p (λ s. IsKnow s)
+mask_if o p e h = (rw e at h)
+
+-- the know lines of all places are all know lines
+all_masks : (count least : ℕ) (ks : List Line) → are_lines count least ks ≡ true → AreMasks ks count → AllByRecursion HasMask ks
+all_masks count least [] up h = tt
+all_masks count least (k ∷ ks) up h =
+    let t = three_parts (nat_le least k.0) (nat_lt k.0 count) (are_lines count (k.0 + 1) ks) up in
+    let lt : k.0 < count = grind (arith, nat_tests, t.1) in
+    let here : (k.0 == k.0) ≡ true = grind (arith, nat_tests) in
+    let first : IsKnow k.1 = mask_at (known (k ∷ ks) k.0) k.1 (ap (λ b. cond b (Some k.1) (known ks k.0)) here) (h k.0 lt) in
+    (record { know = first }, all_masks count (k.0 + 1) ks t.2 (λ q small. elim (tested (nat_lt k.0 q)) [
+      | inl high ↦
+          let other : (k.0 == q) ≡ false = grind (arith, nat_tests, high) in
+          mask_if (known (k ∷ ks) q) (known ks q) (ap (λ b. cond b (Some k.1) (known ks q)) other) (h q small)
+      | inr low ↦ mask_if None (known ks q) (sym (none_known count (k.0 + 1) q ks t.2 (grind (arith, nat_tests, low)))) tt
+    ]))
+
+pub masks_of : (count : ℕ) (ks : List Line) → are_lines count 0 ks ≡ true → AreMasks ks count → AllByRecursion HasMask ks
+masks_of count ks up h = all_masks count 0 ks up h
+
 -- ---- a place
 
 record NextPlace (x : Parts) (p n : ℕ) (front left : List Form) (f : Form) (d : Draft) : Type 0 where
@@ -377,3 +424,26 @@ pub text_again : (x : Parts) → IsImage x → IsAgain (all_inside x.instrs) x (
 text_again x h =
     let r = read_from x h x.instrs 0 1 [] x.knows nothing_read h.in_range (nothing_stands x h) in
     subst (λ (r : Result Parts Bad). IsAgain (all_inside x.instrs) x r) (sym (image_from (spelling x) r.draft r.reads)) (image_read x r.draft (max 1 (length (lines (spelling x)))) h r.all)
+
+-- ---- writing one place after the other
+
+form_at_place : (fs : List Form) (i : ℕ) (f : Form) → i < length fs → f ≡ get_or fs i f → drop i fs ≡ f ∷ drop (i + 1) fs
+form_at_place fs i f lt is = rw (add-one, drop-cons fs i f lt) (ap (λ x. x ∷ drop (suc i) fs) (sym is))
+
+-- one more place was written
+pub text_more : (x : Parts) (old new whole : List ℕ) (place i : ℕ) (f : Form) → i < length x.instrs → f ≡ get_or x.instrs i f → old ++ places_text x place (drop i x.instrs) ≡ whole
+    → new ≡ old ++ place_text x place f → new ++ places_text x (place + 1) (drop (i + 1) x.instrs) ≡ whole
+text_more x old new whole place i f lt is before more =
+    ap (λ l. l ++ places_text x (place + 1) (drop (i + 1) x.instrs)) more ∙ append_assoc old (place_text x place f) (places_text x (place + 1) (drop (i + 1) x.instrs))
+    ∙ ap (λ fs. old ++ places_text x place fs) (sym (form_at_place x.instrs i f lt is)) ∙ before
+
+-- all places were written
+pub all_in_range : (fs : List Form) (i : ℕ) → length fs ≤ i → AllByRecursion IsInRange (take i fs) → AllByRecursion IsInRange fs
+all_in_range fs i le h = subst (λ (gs : List Form). AllByRecursion IsInRange gs) (take_all i fs le) h
+
+pub fewer_masks : (ks : List Line) (n p : ℕ) → n ≤ p → AreMasks ks p → AreMasks ks n
+fewer_masks ks n p le h q lt = h q (omega (arith, le, lt))
+
+-- what is written is read so
+pub written_again : (image : Parts) (bytes : List ℕ) → bytes ≡ spelling image → IsImage image → IsAgain (all_inside image.instrs) image (image_at bytes)
+written_again image bytes e h = subst (λ (t : List ℕ). IsAgain (all_inside image.instrs) image (image_at t)) (sym e) (text_again image h)
