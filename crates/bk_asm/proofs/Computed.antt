@@ -1,11 +1,9 @@
 -- What is computed of the tables of names, value by value: each name and each set of values is a word, and is read again.
-use Rattle.std.proofs.Common.{◌≡◌, ℕ, zero, suc, ◌+◌, ◌*◌, ◌-◌, ◌/◌, ◌%◌, ◌<◌, ◌≤◌, Bool, true, false, ◌&&◌, ◌||◌, cond, inl, inr, List, [], ◌∷◌, ◌++◌, length, get_or, refl, sym, ap, ◌∙◌, arith}
-use Rattle.std.specs.Prelude.{Option, Some, None, codes, nat_lt, ◌==◌}
-use Rattle.std.specs.List.{list_all, AllByRecursion}
+use Rattle.std.proofs.Common.{◌≡◌, ℕ, zero, suc, ◌+◌, ◌*◌, ◌-◌, ◌/◌, ◌%◌, ◌<◌, Bool, true, false, ◌&&◌, ◌||◌, cond, inl, inr, List, [], ◌∷◌, ◌++◌, refl, sym, ap, ◌∙◌, arith}
+use Rattle.std.specs.Prelude.{Option, Some, None, codes, ◌==◌}
+use Rattle.std.specs.List.{AllByRecursion}
 use Rattle.bk_know.specs.declared.sets.Sets.{Sets}
 use Rattle.bk_know.specs.Sets.{field}
-use Rattle.std.specs.Fmt.{decimal}
-use Rattle.std.specs.Str.{bytes_eq}
 use Rattle.std.proofs.lemmas.Bool.{eqb-true}
 use Rattle.std.proofs.lemmas.Bool.Decides.{nat_tests}
 use Rattle.std.proofs.lemmas.Fmt.{decimal_digit}
@@ -95,7 +93,7 @@ set_parts : (separator : ℕ) (values : List Naming) (n : ℕ) → 0 < n → is_
 set_parts separator values n some e =
     let no : (n == 0) ≡ false = grind (arith, nat_tests, some) in
     let t = and_parts (is_word (set_text values true (separator ∷ []) n)) (is_read n (joined values separator (set_text values true (separator ∷ []) n)))
-      (sym (ap (λ b. b || (is_word (set_text values true (separator ∷ []) n) && is_read n (joined values separator (set_text values true (separator ∷ []) n)))) no) ∙ e) in
+    (sym (ap (λ b. b || (is_word (set_text values true (separator ∷ []) n) && is_read n (joined values separator (set_text values true (separator ∷ []) n)))) no) ∙ e) in
     (t.0, read_some n (joined values separator (set_text values true (separator ∷ []) n)) t.1)
 
 pub classes_again : (n : ℕ) → 0 < n → n < 8 → (is_word (set_text class_names true (codes ",") n) ≡ true) × (joined class_names 44 (set_text class_names true (codes ",") n) ≡ Some n)

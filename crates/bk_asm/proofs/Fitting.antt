@@ -1,20 +1,17 @@
 -- The operands of an instruction are in the ranges of its slots.
-use Rattle.std.proofs.Common.{◌≡◌, ℕ, ◌+◌, ◌<◌, Bool, true, false, not, ◌&&◌, ◌||◌, ◌==◌, Option, Some, None, List, [], ◌∷◌, refl, sym, ap, ◌∙◌, inl, inr, arith}
-use Rattle.std.specs.Prelude.{nat_lt}
+use Rattle.std.proofs.Common.{◌≡◌, ℕ, ◌<◌, Bool, true, false, not, ◌||◌, ◌==◌, Some, None, refl, sym, ap, ◌∙◌, arith}
 use Rattle.std.proofs.lemmas.Bool.Decides.{nat_tests}
 use Rattle.bk_isa.specs.declared.form.Form.{Form}
 use Rattle.bk_isa.specs.declared.form.Form.TheVariants as forms
 use Rattle.bk_isa.specs.declared.fields.Fields.{Fields}
-use Rattle.bk_isa.specs.declared.fault.WordFault.{WordFault}
 use Rattle.bk_isa.specs.declared.table.Allowed.{Allowed}
-use Rattle.bk_isa.specs.declared.table.Row.{Row}
 use Rattle.bk_isa.specs.Fields.{fields_of}
-use Rattle.bk_isa.specs.Table.{admits, first_fault, fault_by, fault_in, row_of, tested, value_set, target}
+use Rattle.bk_isa.specs.Table.{admits, fault_by, row_of, value_set, target}
 use Rattle.bk_isa.specs.Words.{IsInRange}
-use Rattle.bk_isa.proofs.Admitted.{AdmitsAll, AdmitsAll-from_none}
+use Rattle.bk_isa.proofs.Admitted.{AdmitsAll-from_none}
 use Rattle.bk_asm.specs.Operations.{shape, opcode}
 use Rattle.bk_asm.specs.Mnemonics.{operation_of}
-use Rattle.bk_asm.specs.Ranges.{is_value, slot_ok, last_ok, limit_of}
+use Rattle.bk_asm.specs.Ranges.{is_value, slot_ok, last_ok}
 use Rattle.bk_asm.specs.declared.names.Names.{Names}
 use Rattle.bk_asm.specs.declared.names.Names.TheVariants as names
 use Rattle.bk_asm.specs.declared.operation.Operation.{Operation}
@@ -23,7 +20,6 @@ use Rattle.bk_asm.specs.declared.operation.Slot.{Slot}
 use Rattle.bk_asm.specs.declared.operation.Slot.TheVariants as slots
 use Rattle.bk_asm.specs.declared.operation.Last.{Last}
 use Rattle.bk_asm.specs.declared.operation.Last.TheVariants as lasts
-use Rattle.bk_asm.proofs.Named.{and_parts}
 use Rattle.bk_asm.proofs.InRange.{allowed, allowed_slot, allowed_last, row, the_row}
 use Rattle.bk_asm.proofs.Computed.{each_below, at_below}
 
@@ -239,7 +235,7 @@ fits_by o p e =
     let one = AdmitsAll-from_none (row (allowed_slot (shape o).a 0) r.0 r.1 r.2) p (sym (ap (fault_by p) r.3) ∙ e) in
     let a = slot_from (shape o).a 0 p.a s.0 one.a in
     let all = AdmitsAll-from_none (row (allowed_slot (shape o).a 0) (allowed_slot (shape o).b p.a) (allowed_slot (shape o).c p.a) (allowed_last (shape o).last)) p
-      (sym (ap (fault_by p) (the_row o p.a a)) ∙ e) in
+    (sym (ap (fault_by p) (the_row o p.a a)) ∙ e) in
     record { a = a; b = slot_from (shape o).b p.a p.b s.1 all.b; c = slot_from (shape o).c p.a p.c s.2 all.c; last = last_from (shape o).last p.imm all.imm }
 
 -- an instruction's operands fit its operation

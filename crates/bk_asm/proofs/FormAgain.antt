@@ -1,5 +1,5 @@
 -- The line of an instruction is read as that instruction.
-use Rattle.std.proofs.Common.{◌≡◌, ℕ, zero, suc, ◌+◌, ◌<◌, ◌≤◌, ◌^◌, Bool, true, false, not, ◌&&◌, ◌||◌, ◌==◌, cond, Option, Some, None, Result, Ok, Err, List, [], ◌∷◌, ◌++◌, length, refl, sym, ap, subst, ◌∙◌, append_assoc, inl, inr, arith}
+use Rattle.std.proofs.Common.{◌≡◌, ℕ, ◌+◌, ◌<◌, ◌≤◌, ◌^◌, Bool, true, false, not, ◌&&◌, ◌||◌, ◌==◌, cond, Option, Some, None, Result, Ok, List, [], ◌∷◌, ◌++◌, length, refl, sym, ap, subst, ◌∙◌, append_assoc, inl, inr, arith}
 use Rattle.std.specs.Prelude.{codes, nat_lt, option_and_then, if◌then◌else◌}
 use Rattle.std.specs.List.{list_all}
 use Rattle.std.specs.Fmt.{decimal}
@@ -13,9 +13,9 @@ use Rattle.bk_isa.specs.declared.fields.Fields.{Fields}
 use Rattle.bk_isa.specs.Fields.{fields_of}
 use Rattle.bk_isa.specs.Words.{IsInRange}
 use Rattle.bk_text.specs.Texts.{is_digit, is_nonempty, digits_number, number_of}
-use Rattle.bk_text.specs.Rows.{Marked, LineWords, words_from}
+use Rattle.bk_text.specs.Rows.{Marked, LineWords}
 use Rattle.bk_text.proofs.Digits.{some_number}
-use Rattle.bk_text.proofs.Rows.{tested, words_from-blank}
+use Rattle.bk_text.proofs.Rows.{tested}
 use Rattle.bk_asm.specs.declared.fault.At.{At}
 use Rattle.bk_asm.specs.declared.fault.Kind.{Kind}
 use Rattle.bk_asm.specs.declared.fault.Kind.TheVariants as kinds
@@ -30,12 +30,12 @@ use Rattle.bk_asm.specs.declared.operation.Last.TheVariants as lasts
 use Rattle.bk_asm.specs.Names.{Naming, named, joined, class_names, value_names, names_of}
 use Rattle.bk_asm.specs.Operations.{shape}
 use Rattle.bk_asm.specs.Mnemonics.{mnemonic, operation_of}
-use Rattle.bk_asm.specs.Programs.{Use, Statement, LineParts}
+use Rattle.bk_asm.specs.Programs.{Use, Statement}
 use Rattle.bk_asm.specs.Ranges.{is_value, slot_ok, last_ok, limit_of}
-use Rattle.bk_asm.specs.Reading.{◌>>=◌, or_wrong, field, slot_at, number_below, number_at, target_of, target_at, last_at, operands_at, mnemonic_at, parts, content_at, labelled_at, line_at, row_at, done, is_label}
+use Rattle.bk_asm.specs.Reading.{◌>>=◌, or_wrong, field, slot_at, number_below, number_at, target_at, last_at, operands_at, mnemonic_at, parts, content_at, labelled_at, line_at, row_at, is_label}
 use Rattle.bk_asm.specs.Writing.{name_of, set_text, slot_text, label_text, last_text, form_text, form_line}
 use Rattle.bk_asm.proofs.Named.{and_parts}
-use Rattle.bk_asm.proofs.Sentences.{is_plain, is_word, spaced, marked, marks, past, row, both, spaced_append, marks_append, words_append, spaced_quiet, spaced_words, row_words}
+use Rattle.bk_asm.proofs.Sentences.{is_plain, is_word, spaced, marked, marks, past, row, both, spaced_append, words_append, row_words}
 use Rattle.bk_asm.proofs.Computed.{name_again, classes_again, values_again, label_again}
 use Rattle.bk_asm.proofs.Fitting.{Fits, fits}
 
@@ -225,7 +225,7 @@ one_word w e = both (is_word w) true e refl
 none_written : (sort : Names) (f n c end : ℕ) (more : List (List ℕ)) → n ≡ 0 → more ≡ [] → IsSlot (slots.Perhaps sort) f n c end more
 none_written sort f n c end more z none =
     subst (λ (k : ℕ). IsSlot (slots.Perhaps sort) f k c end more) (sym z)
-      (subst (λ (ws : List (List ℕ)). IsSlot (slots.Perhaps sort) f 0 c end ws) (sym none) (record { words = refl; read = refl; text = refl }))
+    (subst (λ (ws : List (List ℕ)). IsSlot (slots.Perhaps sort) f 0 c end ws) (sym none) (record { words = refl; read = refl; text = refl }))
 
 one_written : (sort : Names) (f n c end : ℕ) (more : List (List ℕ)) → (n == 0) ≡ false → is_value sort n ≡ true → IsSlot (slots.Perhaps sort) f n c end more
 one_written sort f n c end more not h =
@@ -235,8 +235,8 @@ one_written sort f n c end more not h =
     record {
       words = ap (list_all is_word) e ∙ one_word w t.0;
       read = ap (λ ws. slot_at (slots.Perhaps sort) f (row (marks c (ws ++ more)) end)) e
-        ∙ field_read kinds.Operand kinds.Operand (named (names_of sort)) c end w (marks (c + (length w + 1)) more) n t.1
-        ∙ ap (λ ws. Ok (n, row (marks (past c ws) more) end)) (sym e);
+          ∙ field_read kinds.Operand kinds.Operand (named (names_of sort)) c end w (marks (c + (length w + 1)) more) n t.1
+          ∙ ap (λ ws. Ok (n, row (marks (past c ws) more) end)) (sym e);
       text = ap (λ b. cond b [] (codes " " ++ w)) not ∙ spaced_one w ∙ ap spaced (sym e);
     }
 
@@ -393,9 +393,9 @@ operands_read line c end o p h =
     record {
       words = words_append wa (wb ++ (wc ++ wl)) a.words (words_append wb (wc ++ wl) b.words (words_append wc wl d.words l.words));
       read = operands_by line o (row (marks c (operand_words o p)) end) (row (marks ca (wb ++ (wc ++ wl))) end) (row (marks cb (wc ++ wl)) end) (row (marks cc' wl) end)
-        p.a p.b p.c (imm_of (shape o).last p.imm) (use_of (shape o).last line cc' p.imm) a.read b.read d.read end l.read;
+          p.a p.b p.c (imm_of (shape o).last p.imm) (use_of (shape o).last line cc' p.imm) a.read b.read d.read end l.read;
       text = four_texts wa wb wc wl (slot_text (shape o).a 0 p.a) (slot_text (shape o).b p.a p.b) (slot_text (shape o).c p.a p.c) (last_text (shape o).last p.imm)
-        a.text b.text d.text l.text;
+          a.text b.text d.text l.text;
     }
 
 -- ---- mnemonics
@@ -546,6 +546,6 @@ form_read f labels known line h =
     let r = operands_read line c end o p (fits f h) in (
       last_column c o p,
       ap (λ (r : LineWords). line_at labels false known line r r.words) (row_words (form_words f) (form_is_words f h))
-      ∙ mnemonic_read o labels known line end (operand_words o p)
-      ∙ ap (λ (r : Result Statement At). r >>= λ statement. Ok (parts None (Some statement))) r.read,
+          ∙ mnemonic_read o labels known line end (operand_words o p)
+          ∙ ap (λ (r : Result Statement At). r >>= λ statement. Ok (parts None (Some statement))) r.read,
     )

@@ -1,6 +1,6 @@
 -- A know line is read as its sets.
-use Rattle.std.proofs.Common.{◌≡◌, ℕ, zero, suc, ◌+◌, ◌<◌, ◌≤◌, ◌^◌, ◌/◌, ◌%◌, Bool, true, false, not, ◌&&◌, ◌||◌, ◌==◌, cond, Option, Some, None, Result, Ok, Err, List, [], ◌∷◌, ◌++◌, length, drop, refl, sym, ap, subst, ◌∙◌, append_assoc, inl, inr, arith}
-use Rattle.std.specs.Prelude.{codes, nat_lt, nat_le, option_and_then, bit_or}
+use Rattle.std.proofs.Common.{◌≡◌, ℕ, ◌+◌, ◌<◌, ◌≤◌, ◌^◌, ◌/◌, ◌%◌, Bool, true, false, ◌&&◌, ◌||◌, ◌==◌, cond, Option, Some, None, Result, Ok, List, [], ◌∷◌, ◌++◌, length, drop, refl, sym, ap, subst, ◌∙◌, inl, inr, arith}
+use Rattle.std.specs.Prelude.{codes, nat_le, option_and_then, bit_or}
 use Rattle.std.specs.Option.{option_map}
 use Rattle.std.specs.List.{list_all, AllByRecursion}
 use Rattle.std.proofs.lemmas.Bool.{eqb-true}
@@ -9,18 +9,16 @@ use Rattle.std.proofs.lemmas.Nat.{or_lt}
 use Rattle.std.proofs.Math.Nat.{pow-le-pow_right, div-eq_of_lt, mod-lt}
 use Rattle.std.proofs.Math.Pow.{pow-lt}
 use Rattle.bk_know.specs.declared.sets.Sets.{Sets}
-use Rattle.bk_know.specs.Sets.{idle, held, field, sets_of, mask_of, any_empty, front_empty, back_empty, IsKnow}
-use Rattle.bk_text.specs.Rows.{Marked, LineWords}
+use Rattle.bk_know.specs.Sets.{idle, held, field, mask_of, front_empty, back_empty, IsKnow}
+use Rattle.bk_text.specs.Rows.{LineWords}
 use Rattle.bk_text.proofs.Rows.{tested}
 use Rattle.bk_asm.specs.declared.fault.At.{At}
-use Rattle.bk_asm.specs.declared.fault.Kind.TheVariants as kinds
 use Rattle.bk_asm.specs.declared.names.Names.TheVariants as names
-use Rattle.bk_asm.specs.Names.{Naming, named, cut_at, names_of, value_names}
-use Rattle.bk_asm.specs.Programs.{LineParts}
+use Rattle.bk_asm.specs.Names.{Naming, cut_at, names_of}
 use Rattle.bk_asm.specs.Ranges.{IsSet, limit_of, AreInRange}
 use Rattle.bk_asm.specs.Reading.{◌>>=◌, with_field, fresh, values_of, entry_of, entries_at, know_at, parts, content_at, labelled_at, line_at, row_at}
 use Rattle.bk_asm.specs.Reading.{field as word_of}
-use Rattle.bk_asm.specs.Writing.{set_text, field_text, fields_text, is_held, based_text, know_text}
+use Rattle.bk_asm.specs.Writing.{fields_text, is_held, based_text, know_text}
 use Rattle.bk_asm.proofs.Named.{and_parts}
 use Rattle.bk_asm.proofs.Entries.{entries_on, entries_end}
 use Rattle.bk_asm.proofs.Sentences.{is_word, spaced, marked, marks, row, both, row_words}
@@ -274,4 +272,4 @@ know_read s labels full line h =
     let end = length (know_bytes s) + 1 in
     ap (λ (r : LineWords). line_at labels full false line r r.words) (row_words (know_words s) (know_is_words s h))
     ∙ line_by (is_held s) labels full line end ws s
-      (λ c. entries_read (names_of names.Field) (base_of_sets s) s (base_of_sets s) 0 0 c (omega arith) refl (entries_of s h) ∙ ap Ok (all_applied (base_of_sets s) s))
+    (λ c. entries_read (names_of names.Field) (base_of_sets s) s (base_of_sets s) 0 0 c (omega arith) refl (entries_of s h) ∙ ap Ok (all_applied (base_of_sets s) s))

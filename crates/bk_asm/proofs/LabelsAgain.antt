@@ -1,6 +1,6 @@
 -- The labels of a canonical text, and where its branches go.
-use Rattle.std.proofs.Common.{◌≡◌, ℕ, suc, ◌+◌, ◌<◌, ◌≤◌, Bool, true, false, not, ◌&&◌, ◌||◌, ◌==◌, cond, Option, Some, None, Result, Ok, Err, List, [], ◌∷◌, ◌++◌, length, refl, sym, ap, subst, ◌∙◌, append_assoc, inl, inr, arith}
-use Rattle.std.specs.Prelude.{codes, nat_lt}
+use Rattle.std.proofs.Common.{◌≡◌, ℕ, suc, ◌+◌, ◌<◌, Bool, true, false, not, ◌&&◌, ◌||◌, ◌==◌, cond, Option, Some, None, Result, Ok, Err, List, [], ◌∷◌, ◌++◌, length, refl, sym, ap, subst, ◌∙◌, append_assoc, inl, inr, arith}
+use Rattle.std.specs.Prelude.{nat_lt}
 use Rattle.std.specs.List.{list_all, list_any, AllByRecursion}
 use Rattle.std.specs.declared.cmp.Ordering.{Ordering}
 use Rattle.std.specs.declared.cmp.Ordering.TheVariants.{Less, Equal, Greater}
@@ -19,17 +19,15 @@ use Rattle.bk_isa.proofs.Forms.{form_of-fields_of}
 use Rattle.bk_text.proofs.Rows.{tested}
 use Rattle.bk_asm.specs.declared.operation.Last.{Last}
 use Rattle.bk_asm.specs.declared.operation.Last.TheVariants as lasts
-use Rattle.bk_asm.specs.declared.fault.Kind.TheVariants as kinds
 use Rattle.bk_asm.specs.Again.{goes_inside}
-use Rattle.bk_asm.specs.Faults.{Bad, at, bad}
+use Rattle.bk_asm.specs.Faults.{Bad}
 use Rattle.bk_asm.specs.Names.{Naming}
 use Rattle.bk_asm.specs.Operations.{shape, opcode}
 use Rattle.bk_asm.specs.Mnemonics.{operation_of}
-use Rattle.bk_asm.specs.Programs.{Use, Statement, form_with}
+use Rattle.bk_asm.specs.Programs.{Statement, form_with}
 use Rattle.bk_asm.specs.Ranges.{is_target, last_ok}
 use Rattle.bk_asm.specs.Reading.{◌>>=◌, place_of, on_line, defined_at, form_at, forms_at}
 use Rattle.bk_asm.specs.Writing.{goes_to, label_text}
-use Rattle.bk_asm.proofs.Named.{and_parts}
 use Rattle.bk_asm.proofs.Computed.{same_place}
 use Rattle.bk_asm.proofs.Fitting.{fits, code_is}
 use Rattle.bk_asm.proofs.FormAgain.{imm_of, use_of, statement_of}
@@ -102,8 +100,8 @@ one_label forms p labels lt goes h q small =
       | inr not ↦
           ap (λ b. cond b (Some p) (place_of labels (label_text q))) not ∙ h q small
           ∙ found_as (list_any (goes_to q) forms) p q (λ same.
-            let yes : bytes_eq (label_text q) (label_text p) ≡ true = (bytes_eq-Decides (label_text q) (label_text p)).1 (ap label_text same) in
-            absurd cc)
+          let yes : bytes_eq (label_text q) (label_text p) ≡ true = (bytes_eq-Decides (label_text q) (label_text p)).1 (ap label_text same) in
+          absurd cc)
     ]
 
 -- one more place that no branch goes to
@@ -174,10 +172,10 @@ resolved_one : (labels : List Naming) (forms front : List Form) (f : Form) (more
 resolved_one labels forms front f more count s is range one h =
     let t = statement_of one.0 one.1 (operation_of f) (fields_of f) in
     let goes : is_target (shape (operation_of f)).last ≡ true → list_any (goes_to (fields_of f).imm) forms ≡ true =
-      λ e. ap (list_any (goes_to (fields_of f).imm)) is ∙ any_at (goes_to (fields_of f).imm) front f more (goes_there f e) in
+    λ e. ap (list_any (goes_to (fields_of f).imm)) is ∙ any_at (goes_to (fields_of f).imm) front f more (goes_there f e) in
     let r = resolved_by (shape (operation_of f)).last labels forms count one.0 one.1 (fields_of f).imm t refl (fits f range).last goes h in
     subst (λ (s : Statement). IsResolved (goes_inside count f) f (form_at labels s s.target)) (sym one.2)
-      (subst (λ (g : Form). IsResolved (goes_inside count f) g (form_at labels t t.target)) (form_same f) r)
+    (subst (λ (g : Form). IsResolved (goes_inside count f) g (form_at labels t t.target)) (form_same f) r)
 
 resolved_more : (a b : Bool) (f : Form) (fs : List Form) (r : Result Form Bad) (rs : Result (List Form) Bad) → IsResolved a f r → IsResolved b fs rs
     → IsResolved (a && b) (f ∷ fs) (r >>= λ form. rs >>= λ forms. Ok (form ∷ forms))
@@ -191,8 +189,8 @@ unfolding forms_at
 resolved_from labels forms front [] count [] is range of h = refl
 resolved_from labels forms front (f ∷ fs) count (s ∷ ss) is range of h =
     resolved_more (goes_inside count f) (list_all (goes_inside count) fs) f fs (form_at labels s s.target) (forms_at labels ss)
-      (resolved_one labels forms front f fs count s is range.0 of.0 h)
-      (resolved_from labels forms (front ++ f ∷ []) fs count ss (is ∙ sym (append_assoc front (f ∷ []) fs)) range.1 of.1 h)
+    (resolved_one labels forms front f fs count s is range.0 of.0 h)
+    (resolved_from labels forms (front ++ f ∷ []) fs count ss (is ∙ sym (append_assoc front (f ∷ []) fs)) range.1 of.1 h)
 resolved_from labels forms front [] count (s ∷ ss) is range of h = absurd of
 resolved_from labels forms front (f ∷ fs) count [] is range of h = absurd of
 

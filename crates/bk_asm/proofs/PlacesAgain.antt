@@ -1,7 +1,7 @@
 -- The canonical text of an image is read as that image.
-use Rattle.std.proofs.Common.{◌≡◌, ℕ, ◌+◌, ◌<◌, ◌≤◌, Bool, true, false, not, ◌&&◌, ◌||◌, ◌==◌, cond, Option, Some, None, Result, Ok, Err, List, [], ◌∷◌, ◌++◌, length, get_or, take, drop, drop-cons, add-one, suc, refl, sym, ap, subst, ◌∙◌, append_assoc, inl, inr, arith}
+use Rattle.std.proofs.Common.{◌≡◌, ℕ, ◌+◌, ◌<◌, ◌≤◌, Bool, true, false, not, ◌&&◌, ◌==◌, cond, Option, Some, None, Result, Ok, List, [], ◌∷◌, ◌++◌, length, get_or, take, drop, drop-cons, add-one, suc, refl, sym, ap, subst, ◌∙◌, append_assoc, inl, inr, arith}
 use Rattle.std.specs.Prelude.{codes, nat_lt, nat_le, is_some, max, IfSome}
-use Rattle.std.specs.List.{list_all, list_any, AllByRecursion}
+use Rattle.std.specs.List.{list_any, AllByRecursion}
 use Rattle.std.specs.Ordering.{nat_cmp}
 use Rattle.std.specs.Cmp.Lexicographic.{slice_cmp}
 use Rattle.std.specs.BTreeMap.{insert_entry}
@@ -18,18 +18,15 @@ use Rattle.bk_image.specs.Images.{Parts, Line, are_lines, known}
 use Rattle.bk_image.specs.Spelling.{HasMask, IsImage}
 use Rattle.bk_text.specs.Rows.{LineWords}
 use Rattle.bk_text.proofs.Rows.{tested}
-use Rattle.bk_asm.specs.Again.{goes_inside, all_inside, IsAgain}
-use Rattle.bk_asm.specs.Faults.{Bad, at, bad}
-use Rattle.bk_asm.specs.declared.fault.Kind.TheVariants as kinds
-use Rattle.bk_asm.specs.declared.fault.At.{At}
+use Rattle.bk_asm.specs.Again.{all_inside, IsAgain}
+use Rattle.bk_asm.specs.Faults.{Bad, at}
 use Rattle.bk_asm.specs.Names.{Naming}
 use Rattle.bk_asm.specs.Mnemonics.{operation_of}
-use Rattle.bk_asm.specs.Programs.{Statement, LineParts}
+use Rattle.bk_asm.specs.Programs.{Statement}
 use Rattle.bk_asm.specs.Reading.{◌>>=◌, Draft, nothing_read, row_at, place_of, parts, fresh_label, rest_at, labelled_at, line_at, with_label, with_know, know_line, with_statement, lines_at, forms_at, image_of, image_at}
-use Rattle.bk_asm.specs.Writing.{goes_to, label_text, label_line, know_text, know_line_text, form_line, place_text, places_text, spelling}
-use Rattle.bk_asm.proofs.Named.{and_parts}
+use Rattle.bk_asm.specs.Writing.{goes_to, label_text, label_line, know_line_text, form_line, place_text, places_text, spelling}
 use Rattle.bk_asm.proofs.Texts.{read_line, goes_on, ends}
-use Rattle.bk_asm.proofs.Sentences.{both, is_word, marked, row, word_alone, word_quiet, spaced_quiet, row_is, line_again}
+use Rattle.bk_asm.proofs.Sentences.{both, marked, row, word_alone, word_quiet, spaced_quiet, row_is, line_again}
 use Rattle.bk_asm.proofs.Computed.{IsPlaceLabel, label_again}
 use Rattle.bk_asm.proofs.FormAgain.{statement_of, form_words, form_bytes, form_is_words, form_bytes_are, form_read}
 use Rattle.bk_asm.proofs.KnowAgain.{know_words, know_bytes, know_is_words, know_bytes_are, know_read}
@@ -101,21 +98,21 @@ label_step x p n front left back d rest lt h = elim (tested (list_any (goes_to p
         draft = with_label (Some name) d;
         line = n + 1;
         reads = ap (λ t. lines_at d n (lines t)) text ∙ ap (lines_at d n) (line_again w rest (word_quiet w (label_again p lt).defined))
-          ∙ goes_on d n w (lines rest) (record { label = Some name; know = None; does = None }) (label_line_read d p n lt none);
+            ∙ goes_on d n w (lines rest) (record { label = Some name; know = None; does = None }) (label_line_read d p n lt none);
         statements = refl;
         knows = refl;
         know = refl;
         labels = subst (λ (k : ℕ). AreLabels x.instrs (p + 1) (insert_entry (slice_cmp nat_cmp) d.labels name k)) (sym place) (one_label x.instrs p d.labels lt goes h.labels);
       }
   | inr none ↦ record {
-      draft = d;
-      line = n;
-      reads = ap (λ t. lines_at d n (lines (t ++ rest))) (label_text_is x.instrs p false none);
-      statements = refl;
-      knows = refl;
-      know = refl;
-      labels = no_label x.instrs p d.labels none h.labels;
-    }
+    draft = d;
+    line = n;
+    reads = ap (λ t. lines_at d n (lines (t ++ rest))) (label_text_is x.instrs p false none);
+    statements = refl;
+    knows = refl;
+    know = refl;
+    labels = no_label x.instrs p d.labels none h.labels;
+  }
 ]
 
 -- a know line, if there is one, waits for the instruction
@@ -127,7 +124,7 @@ know_step (Some s) d n rest h none =
     let full = nat_le 256 (length d.statements) in
     let quiet = spaced_quiet (know_words s) (know_is_words s mask) in
     let read : read_line d n (know_bytes s) ≡ Ok (parts (Some s) None) =
-      ap (λ (o : Option Sets). line_at d.labels full (is_some o) n (row_at (know_bytes s)) (row_at (know_bytes s)).words) none ∙ know_read s d.labels full n mask in (
+    ap (λ (o : Option Sets). line_at d.labels full (is_some o) n (row_at (know_bytes s)) (row_at (know_bytes s)).words) none ∙ know_read s d.labels full n mask in (
       n + 1,
       ap (λ t. lines_at d n (lines (t ++ rest))) (know_bytes_are s) ∙ ap (lines_at d n) (line_again (know_bytes s) rest quiet) ∙ goes_on d n (know_bytes s) (lines rest) (parts (Some s) None) read,
     )
@@ -141,7 +138,7 @@ form_step f d n rest range few =
     let room : nat_le 256 (length d.statements) ≡ false = grind (arith, nat_tests, few) in
     let quiet = spaced_quiet (form_words f) (form_is_words f range) in
     let read : read_line d n (form_bytes f) ≡ Ok (parts None (Some s)) =
-      ap (λ full. line_at d.labels full (is_some d.know) n (row_at (form_bytes f)) (row_at (form_bytes f)).words) room ∙ r.1 in (
+    ap (λ full. line_at d.labels full (is_some d.know) n (row_at (form_bytes f)) (row_at (form_bytes f)).words) room ∙ r.1 in (
       s,
       (n, r.0, refl),
       ap (λ t. lines_at d n (lines (t ++ rest))) (form_bytes_are f range) ∙ ap (lines_at d n) (line_again (form_bytes f) rest quiet) ∙ goes_on d n (form_bytes f) (lines rest) (parts None (Some s)) read,
@@ -244,13 +241,15 @@ all_masks count least (k ∷ ks) up h =
     let t = three_parts (nat_le least k.0) (nat_lt k.0 count) (are_lines count (k.0 + 1) ks) up in
     let lt : k.0 < count = grind (arith, nat_tests, t.1) in
     let here : (k.0 == k.0) ≡ true = grind (arith, nat_tests) in
-    let first : IsKnow k.1 = mask_at (known (k ∷ ks) k.0) k.1 (ap (λ b. cond b (Some k.1) (known ks k.0)) here) (h k.0 lt) in
-    (record { know = first }, all_masks count (k.0 + 1) ks t.2 (λ q small. elim (tested (nat_lt k.0 q)) [
-      | inl high ↦
-          let other : (k.0 == q) ≡ false = grind (arith, nat_tests, high) in
-          mask_if (known (k ∷ ks) q) (known ks q) (ap (λ b. cond b (Some k.1) (known ks q)) other) (h q small)
-      | inr low ↦ mask_if None (known ks q) (sym (none_known count (k.0 + 1) q ks t.2 (grind (arith, nat_tests, low)))) tt
-    ]))
+    let first : IsKnow k.1 = mask_at (known (k ∷ ks) k.0) k.1 (ap (λ b. cond b (Some k.1) (known ks k.0)) here) (h k.0 lt) in (
+      record { know = first },
+      all_masks count (k.0 + 1) ks t.2 (λ q small. elim (tested (nat_lt k.0 q)) [
+        | inl high ↦
+            let other : (k.0 == q) ≡ false = grind (arith, nat_tests, high) in
+            mask_if (known (k ∷ ks) q) (known ks q) (ap (λ b. cond b (Some k.1) (known ks q)) other) (h q small)
+        | inr low ↦ mask_if None (known ks q) (sym (none_known count (k.0 + 1) q ks t.2 (grind (arith, nat_tests, low)))) tt
+      ]),
+    )
 
 pub masks_of : (count : ℕ) (ks : List Line) → are_lines count 0 ks ≡ true → AreMasks ks count → AllByRecursion HasMask ks
 masks_of count ks up h = all_masks count 0 ks up h
@@ -296,7 +295,7 @@ stands_next x p front left f back d two s h statements knows know labels one b =
       place = length_push front f ∙ ap (λ k. k + 1) h.place;
       statements = subst (λ (ss : List Statement). AreOf (ss ++ s ∷ []) (front ++ f ∷ [])) (sym statements) (one_of_more d.statements front s f h.statements one);
       knows = knows_kept x.knows d.knows back b.more (know_line p (known back p)) h.knows b.cut
-        ∙ knows_same d.knows two.knows b.more p (length two.statements) (known back p) two.know knows place waited;
+          ∙ knows_same d.knows two.knows b.more p (length two.statements) (known back p) two.know knows place waited;
       later = λ q le. h.later q (omega (arith, le)) ∙ b.later q le;
       up = b.up;
       know = refl;
@@ -327,7 +326,7 @@ place_step x p n front left f back d image range lt h =
       back = b.more;
       reads = ap (λ t. lines_at d n (lines t)) text ∙ l.reads ∙ k.1 ∙ s.2;
       stands = stands_next x p front left f back d two s.0 h statements (kept.knows ∙ l.knows) kept.know
-        (subst (λ (ls : List Naming). AreLabels x.instrs (p + 1) ls) (sym kept.labels) l.labels) s.1 b;
+          (subst (λ (ls : List Naming). AreLabels x.instrs (p + 1) ls) (sym kept.labels) l.labels) s.1 b;
     }
 
 -- ---- all places
@@ -413,7 +412,7 @@ image_read x d last h read =
     let some : (length d.statements == 0) ≡ false = nonempty (length d.statements) (length x.instrs) (same_length d.statements x.instrs read.statements) h.whole.count.some in
     let is = image_is last d x.knows read.waits read.know some read.knows in
     subst (λ (r : Result Parts Bad). IsAgain (all_inside x.instrs) x r) (sym is)
-      (again_by (all_inside x.instrs) x (forms_at d.labels d.statements) (resolved d.labels x.instrs d.statements h.in_range read.statements read.labels))
+    (again_by (all_inside x.instrs) x (forms_at d.labels d.statements) (resolved d.labels x.instrs d.statements h.in_range read.statements read.labels))
 
 image_from : (text : List ℕ) (d : Draft) → lines_at nothing_read 1 (lines text) ≡ Ok d → image_at text ≡ image_of (max 1 (length (lines text))) d
 unfolding image_at

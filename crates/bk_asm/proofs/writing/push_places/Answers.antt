@@ -1,5 +1,4 @@
 use Rattle.std.proofs.Common.{◌≡◌, ◌+◌, ◌<◌, ◌≤◌, length, get_or, arith, ap}
-use Rattle.bk_image.specs.Spelling.{IsImage}
 use Rattle.bk_asm.proofs.PlacesAgain.{ranges_more, one_mask, text_more, all_in_range, fewer_masks, masks_of}
 use Rattle.bk_asm.proofs.writing.push_places.Goals as goal
 use Rattle.std.specs.Prelude.{string_bytes}
