@@ -22,6 +22,7 @@ abbrev pub is_read : ℕ → Option ℕ → Bool
 is_read n None = false
 is_read n (Some m) = m == n
 
+-- a number that was read
 pub read_some : (n : ℕ) (o : Option ℕ) → is_read n o ≡ true → o ≡ Some n
 read_some n None e = absurd cc
 read_some n (Some m) e = ap Some (eqb-true m n e)
@@ -33,7 +34,9 @@ abbrev all_pairs : (List ℕ → ℕ → Bool) → List Naming → Bool
 all_pairs p [] = true
 all_pairs p (name ∷ more) = p name.0 name.1 && all_pairs p more
 
-pair_holds : (p : List ℕ → ℕ → Bool) (names : List Naming) (n : ℕ) → all_pairs p names ≡ true → has_value names n ≡ true → p (name_of names n) n ≡ true
+-- what holds of each name and its number holds of the name of a number
+pair_holds : (p : List ℕ → ℕ → Bool) (names : List Naming) (n : ℕ) → all_pairs p names ≡ true → has_value names n ≡ true
+    → p (name_of names n) n ≡ true
 pair_holds p [] n e h = absurd cc
 pair_holds p (name ∷ more) n e h =
     let t = and_parts (p name.0 name.1) (all_pairs p more) e in
@@ -63,9 +66,12 @@ sort_good names.Owner = refl
 sort_good names.Tested = refl
 sort_good names.Field = refl
 
-pub name_again : (sort : Names) (n : ℕ) → is_value sort n ≡ true → (is_word (name_of (names_of sort) n) ≡ true) × (named (names_of sort) (name_of (names_of sort) n) ≡ Some n)
+-- the name of a number is a word, and is read as that number
+pub name_again : (sort : Names) (n : ℕ) → is_value sort n ≡ true
+    → (is_word (name_of (names_of sort) n) ≡ true) × (named (names_of sort) (name_of (names_of sort) n) ≡ Some n)
 name_again sort n h =
-    let t = and_parts (is_word (name_of (names_of sort) n)) (is_read n (named (names_of sort) (name_of (names_of sort) n))) (pair_holds (stands_for (names_of sort)) (names_of sort) n (sort_good sort) h) in
+    let t = and_parts (is_word (name_of (names_of sort) n)) (is_read n (named (names_of sort) (name_of (names_of sort) n)))
+    (pair_holds (stands_for (names_of sort)) (names_of sort) n (sort_good sort) h) in
     (t.0, read_some n (named (names_of sort) (name_of (names_of sort) n)) t.1)
 
 -- ---- sets of values
@@ -75,6 +81,7 @@ abbrev pub each_below : (ℕ → Bool) → ℕ → Bool
 each_below p zero = true
 each_below p (suc n) = p n && each_below p n
 
+-- a test that each number below a limit passes
 pub at_below : (p : ℕ → Bool) (limit n : ℕ) → each_below p limit ≡ true → n < limit → p n ≡ true
 at_below p zero n e lt = absurd (omega arith)
 at_below p (suc limit) n e lt =
@@ -84,28 +91,37 @@ at_below p (suc limit) n e lt =
       | inr not ↦ at_below p limit n t.1 (grind (arith, nat_tests, lt, not))
     ]
 
+-- one of two tests, where the number is not 0
+none_or : (n : ℕ) (b : Bool) → 0 < n → (n == 0) || b ≡ true → b ≡ true
+none_or n b some e = let no : (n == 0) ≡ false = grind (arith, nat_tests, some) in sym (ap (λ t. t || b) no) ∙ e
+
 -- a set of values is a word with a separator between the names, and is read again
 abbrev is_set_again : ℕ → List Naming → ℕ → Bool
-is_set_again separator values n = n == 0 || (is_word (set_text values true (separator ∷ []) n) && is_read n (joined values separator (set_text values true (separator ∷ []) n)))
+is_set_again separator values n =
+    n == 0 || (is_word (set_text values true (separator ∷ []) n) && is_read n (joined values separator (set_text values true (separator ∷ []) n)))
 
+-- a set that is not empty is a word, and is read again
 set_parts : (separator : ℕ) (values : List Naming) (n : ℕ) → 0 < n → is_set_again separator values n ≡ true
     → (is_word (set_text values true (separator ∷ []) n) ≡ true) × (joined values separator (set_text values true (separator ∷ []) n) ≡ Some n)
 set_parts separator values n some e =
-    let no : (n == 0) ≡ false = grind (arith, nat_tests, some) in
     let t = and_parts (is_word (set_text values true (separator ∷ []) n)) (is_read n (joined values separator (set_text values true (separator ∷ []) n)))
-    (sym (ap (λ b. b || (is_word (set_text values true (separator ∷ []) n) && is_read n (joined values separator (set_text values true (separator ∷ []) n)))) no) ∙ e) in
+    (none_or n (is_word (set_text values true (separator ∷ []) n) && is_read n (joined values separator (set_text values true (separator ∷ []) n))) some e) in
     (t.0, read_some n (joined values separator (set_text values true (separator ∷ []) n)) t.1)
 
-pub classes_again : (n : ℕ) → 0 < n → n < 8 → (is_word (set_text class_names true (codes ",") n) ≡ true) × (joined class_names 44 (set_text class_names true (codes ",") n) ≡ Some n)
+-- each set of classes is a word, and is read again
+pub classes_again : (n : ℕ) → 0 < n → n < 8
+    → (is_word (set_text class_names true (codes ",") n) ≡ true) × (joined class_names 44 (set_text class_names true (codes ",") n) ≡ Some n)
 classes_again n some few = set_parts 44 class_names n some (at_below (is_set_again 44 class_names) 8 n refl few)
 
+-- each set of values of each field that `bk` tests is a word, and is read again
 all_tested : all_values (λ k. each_below (is_set_again 44 (value_names k)) (limit_of k)) (names_of names.Tested) ≡ true
 all_tested = refl
 
 pub values_again : (k n : ℕ) → is_value names.Tested k ≡ true → 0 < n → n < limit_of k
     → (is_word (set_text (value_names k) true (codes ",") n) ≡ true) × (joined (value_names k) 44 (set_text (value_names k) true (codes ",") n) ≡ Some n)
 values_again k n field some few =
-    set_parts 44 (value_names k) n some (at_below (is_set_again 44 (value_names k)) (limit_of k) n (value_holds (λ j. each_below (is_set_again 44 (value_names j)) (limit_of j)) (names_of names.Tested) k all_tested field) few)
+    let all = value_holds (λ j. each_below (is_set_again 44 (value_names j)) (limit_of j)) (names_of names.Tested) k all_tested field in
+    set_parts 44 (value_names k) n some (at_below (is_set_again 44 (value_names k)) (limit_of k) n all few)
 
 -- ---- fields of know lines
 
@@ -113,12 +129,15 @@ values_again k n field some few =
 abbrev pub entry_word : Naming → ℕ → List ℕ
 entry_word name n = (name.0 ++ codes "=") ++ set_text (value_names name.1) true (codes "|") n
 
+-- a word is an entry of a field and a set
 abbrev entry_parts : ℕ → ℕ → List ℕ → Bool
 entry_parts k n word = is_word word && is_read k (named (names_of names.Field) (cut_at 61 word).0) && is_read n (values_of k (cut_at 61 word).1)
 
+-- with each set of its values a field gives such a word
 abbrev is_entry_again : List ℕ → ℕ → Bool
 is_entry_again name k = each_below (λ n. n == 0 || entry_parts k n (entry_word (name, k) n)) (limit_of k)
 
+-- each field of the table does
 all_entries : all_pairs is_entry_again (names_of names.Field) ≡ true
 all_entries = refl
 
@@ -128,6 +147,7 @@ all_entries = refl
 abbrev label_bytes : ℕ → List ℕ
 label_bytes n = 76 ∷ (48 + n / 100 % 10) ∷ (48 + n / 10 % 10) ∷ (48 + n % 10) ∷ []
 
+-- the label of a place, byte by byte
 pub label_is : (n : ℕ) → label_text n ≡ label_bytes n
 label_is n = rw (decimal_digit (n / 100 % 10) (omega arith), decimal_digit (n / 10 % 10) (omega arith), decimal_digit (n % 10) (omega arith)) refl
 
@@ -136,9 +156,11 @@ abbrev label_number : List ℕ → ℕ
 label_number (l ∷ a ∷ b ∷ c ∷ []) = (a - 48) * 100 + (b - 48) * 10 + (c - 48)
 label_number bytes = 0
 
+-- such bytes are words, a label, and name the place again
 abbrev is_label_again : ℕ → Bool
 is_label_again n = is_word (label_bytes n) && is_word (label_bytes n ++ codes ":") && is_label (label_bytes n) && label_number (label_bytes n) == n
 
+-- computed for each place
 all_labels : each_below is_label_again 256 ≡ true
 all_labels = refl
 
@@ -150,6 +172,7 @@ pub record IsPlaceLabel (n : ℕ) : Type 0 where
   pub read : label_of (label_text n ++ codes ":") ≡ Some (label_text n)
   pub number : label_number (label_text n) ≡ n
 
+-- four tests that pass together
 three : (a b c d : Bool) → a && b && c && d ≡ true → (a ≡ true) × (b ≡ true) × (c ≡ true) × (d ≡ true)
 three true true true true e = (refl, refl, refl, refl)
 three true true true false e = absurd cc
@@ -157,12 +180,15 @@ three true true false d e = absurd cc
 three true false c d e = absurd cc
 three false b c d e = absurd cc
 
+-- a label before `:` is read as that label
 label_read : (bytes : List ℕ) (a b c d : ℕ) → bytes ≡ a ∷ b ∷ c ∷ d ∷ [] → is_label bytes ≡ true → label_of (bytes ++ codes ":") ≡ Some bytes
 label_read bytes a b c d is e = rw is (ap (λ t. cond t (Some (a ∷ b ∷ c ∷ d ∷ [])) None) (rw is at e))
 
+-- the label of each place
 pub label_again : (n : ℕ) → n < 256 → IsPlaceLabel n
 label_again n lt =
-    let t = three (is_word (label_bytes n)) (is_word (label_bytes n ++ codes ":")) (is_label (label_bytes n)) (label_number (label_bytes n) == n) (at_below is_label_again 256 n all_labels lt) in
+    let t = three (is_word (label_bytes n)) (is_word (label_bytes n ++ codes ":")) (is_label (label_bytes n)) (label_number (label_bytes n) == n)
+    (at_below is_label_again 256 n all_labels lt) in
     let e = label_is n in
     let label : is_label (label_text n) ≡ true = ap is_label e ∙ t.2 in
     record {
@@ -183,18 +209,21 @@ pub record IsEntry (name : Naming) (n : ℕ) : Type 0 where
   pub field : named (names_of names.Field) (cut_at 61 (entry_word name n)).0 ≡ Some name.1
   pub set : values_of name.1 (cut_at 61 (entry_word name n)).1 ≡ Some n
 
+-- the parts of an entry
 entry_is : (name : Naming) (n : ℕ) → entry_parts name.1 n (entry_word name n) ≡ true → IsEntry name n
 entry_is name n e =
     let w = entry_word name n in
     let t = and_parts (is_word w && is_read name.1 (named (names_of names.Field) (cut_at 61 w).0)) (is_read n (values_of name.1 (cut_at 61 w).1)) e in
     let s = and_parts (is_word w) (is_read name.1 (named (names_of names.Field) (cut_at 61 w).0)) t.0 in
-    record { word = s.0; field = read_some name.1 (named (names_of names.Field) (cut_at 61 w).0) s.1; set = read_some n (values_of name.1 (cut_at 61 w).1) t.1 }
-
-none_or : (n : ℕ) (b : Bool) → 0 < n → (n == 0) || b ≡ true → b ≡ true
-none_or n b some e = let no : (n == 0) ≡ false = grind (arith, nat_tests, some) in sym (ap (λ t. t || b) no) ∙ e
+    record {
+      word = s.0;
+      field = read_some name.1 (named (names_of names.Field) (cut_at 61 w).0) s.1;
+      set = read_some n (values_of name.1 (cut_at 61 w).1) t.1;
+    }
 
 -- the entries of fields whose sets are in their ranges
-fields_by : (fields : List Naming) (s : Sets) → all_pairs is_entry_again fields ≡ true → AllByRecursion (λ name. IsSet (limit_of name.1) (field s name.1)) fields → AllByRecursion (λ name. IsEntry name (field s name.1)) fields
+fields_by : (fields : List Naming) (s : Sets) → all_pairs is_entry_again fields ≡ true
+    → AllByRecursion (λ name. IsSet (limit_of name.1) (field s name.1)) fields → AllByRecursion (λ name. IsEntry name (field s name.1)) fields
 fields_by [] s e h = tt
 fields_by (name ∷ more) s e h =
     let t = and_parts (is_entry_again name.0 name.1) (all_pairs is_entry_again more) e in
@@ -202,5 +231,7 @@ fields_by (name ∷ more) s e h =
     let one = at_below (λ n. n == 0 || entry_parts name.1 n (entry_word (name.0, name.1) n)) (limit_of name.1) n t.0 h.0.1 in
     (entry_is name n (none_or n (entry_parts name.1 n (entry_word name n)) h.0.0 one), fields_by more s t.1 h.1)
 
-pub fields_again : (s : Sets) → AllByRecursion (λ name. IsSet (limit_of name.1) (field s name.1)) (names_of names.Field) → AllByRecursion (λ name. IsEntry name (field s name.1)) (names_of names.Field)
+-- each field of what a know line says
+pub fields_again : (s : Sets) → AllByRecursion (λ name. IsSet (limit_of name.1) (field s name.1)) (names_of names.Field)
+    → AllByRecursion (λ name. IsEntry name (field s name.1)) (names_of names.Field)
 fields_again s h = fields_by (names_of names.Field) s all_entries h

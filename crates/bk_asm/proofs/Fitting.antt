@@ -5,6 +5,7 @@ use Rattle.bk_isa.specs.declared.form.Form.{Form}
 use Rattle.bk_isa.specs.declared.form.Form.TheVariants as forms
 use Rattle.bk_isa.specs.declared.fields.Fields.{Fields}
 use Rattle.bk_isa.specs.declared.table.Allowed.{Allowed}
+use Rattle.bk_isa.specs.declared.table.Row.{Row}
 use Rattle.bk_isa.specs.Fields.{fields_of}
 use Rattle.bk_isa.specs.Table.{admits, fault_by, row_of, value_set, target}
 use Rattle.bk_isa.specs.Words.{IsInRange}
@@ -51,6 +52,7 @@ bounded names.Field n e = grind (arith, nat_tests, e)
 abbrev is_exact : Names → Bool
 is_exact sort = each_below (λ n. not (admits (allowed sort) n) || is_value sort n) 32
 
+-- the same for each slot; where a name may be missing, 0 is admitted too
 abbrev is_slot : Slot → Bool
 is_slot slots.Nothing = true
 is_slot (slots.Name sort) = is_exact sort
@@ -58,24 +60,30 @@ is_slot (slots.Perhaps sort) = each_below (λ n. not (admits (allowed sort) n) |
 is_slot slots.Classes = true
 is_slot slots.Values = true
 
+-- what follows from a test that passes
 modus : (a b : Bool) → not a || b ≡ true → a ≡ true → b ≡ true
 modus true b e f = e
 modus false b e f = absurd cc
 
+-- what the table of words admits is an operand of the slot
 slot_from : (slot : Slot) (f n : ℕ) → is_slot slot ≡ true → admits (allowed_slot slot f) n ≡ true → slot_ok slot f n ≡ true
 slot_from slots.Nothing f n z e = e
-slot_from (slots.Name sort) f n z e = modus (admits (allowed sort) n) (is_value sort n) (at_below (λ n. not (admits (allowed sort) n) || is_value sort n) 32 n z (bounded sort n e)) e
+slot_from (slots.Name sort) f n z e =
+    modus (admits (allowed sort) n) (is_value sort n) (at_below (λ n. not (admits (allowed sort) n) || is_value sort n) 32 n z (bounded sort n e)) e
 slot_from (slots.Perhaps sort) f n z e =
-    modus (admits (allowed sort) n) (n == 0 || is_value sort n) (at_below (λ n. not (admits (allowed sort) n) || (n == 0 || is_value sort n)) 32 n z (bounded sort n e)) e
+    modus (admits (allowed sort) n) (n == 0 || is_value sort n)
+    (at_below (λ n. not (admits (allowed sort) n) || (n == 0 || is_value sort n)) 32 n z (bounded sort n e)) e
 slot_from slots.Classes f n z e = grind (arith, nat_tests, e)
 slot_from slots.Values f n z e = grind (arith, nat_tests, e)
 
+-- what the table of words admits is a last operand
 last_from : (last : Last) (n : ℕ) → admits (allowed_last last) n ≡ true → last_ok last n ≡ true
 last_from lasts.Nothing n e = e
 last_from lasts.Shift n e = grind (arith, nat_tests, e)
 last_from lasts.Number n e = grind (arith, nat_tests, e)
 last_from lasts.Target n e = grind (arith, nat_tests, e)
 
+-- the slots of each operation are such slots
 are_slots : (o : Operation) → (is_slot (shape o).a ≡ true) × (is_slot (shape o).b ≡ true) × (is_slot (shape o).c ≡ true)
 are_slots operations.Nop = (refl, refl, refl)
 are_slots operations.Add = (refl, refl, refl)
@@ -127,55 +135,66 @@ are_slots operations.Memwb = (refl, refl, refl)
 are_slots operations.Memww = (refl, refl, refl)
 
 -- the first field of an operation's row in the table of words
-first_of_row : (o : Operation) (a : ℕ) → (b : Allowed) × (c : Allowed) × (imm : Allowed) × (row_of (opcode o) a ≡ Some (row (allowed_slot (shape o).a 0) b c imm))
-first_of_row operations.Nop a = (allowed_slot (shape operations.Nop).b a, allowed_slot (shape operations.Nop).c a, allowed_last (shape operations.Nop).last, refl)
-first_of_row operations.Add a = (allowed_slot (shape operations.Add).b a, allowed_slot (shape operations.Add).c a, allowed_last (shape operations.Add).last, refl)
-first_of_row operations.Sub a = (allowed_slot (shape operations.Sub).b a, allowed_slot (shape operations.Sub).c a, allowed_last (shape operations.Sub).last, refl)
-first_of_row operations.And a = (allowed_slot (shape operations.And).b a, allowed_slot (shape operations.And).c a, allowed_last (shape operations.And).last, refl)
-first_of_row operations.Or a = (allowed_slot (shape operations.Or).b a, allowed_slot (shape operations.Or).c a, allowed_last (shape operations.Or).last, refl)
-first_of_row operations.Xor a = (allowed_slot (shape operations.Xor).b a, allowed_slot (shape operations.Xor).c a, allowed_last (shape operations.Xor).last, refl)
-first_of_row operations.Shl a = (allowed_slot (shape operations.Shl).b a, allowed_slot (shape operations.Shl).c a, allowed_last (shape operations.Shl).last, refl)
-first_of_row operations.Shr a = (allowed_slot (shape operations.Shr).b a, allowed_slot (shape operations.Shr).c a, allowed_last (shape operations.Shr).last, refl)
-first_of_row operations.Addi a = (allowed_slot (shape operations.Addi).b a, allowed_slot (shape operations.Addi).c a, allowed_last (shape operations.Addi).last, refl)
-first_of_row operations.Not a = (allowed_slot (shape operations.Not).b a, allowed_slot (shape operations.Not).c a, allowed_last (shape operations.Not).last, refl)
-first_of_row operations.Neg a = (allowed_slot (shape operations.Neg).b a, allowed_slot (shape operations.Neg).c a, allowed_last (shape operations.Neg).last, refl)
-first_of_row operations.Mov a = (allowed_slot (shape operations.Mov).b a, allowed_slot (shape operations.Mov).c a, allowed_last (shape operations.Mov).last, refl)
-first_of_row operations.Movi a = (allowed_slot (shape operations.Movi).b a, allowed_slot (shape operations.Movi).c a, allowed_last (shape operations.Movi).last, refl)
-first_of_row operations.Mova a = (allowed_slot (shape operations.Mova).b a, allowed_slot (shape operations.Mova).c a, allowed_last (shape operations.Mova).last, refl)
-first_of_row operations.Movs a = (allowed_slot (shape operations.Movs).b a, allowed_slot (shape operations.Movs).c a, allowed_last (shape operations.Movs).last, refl)
-first_of_row operations.Movw a = (allowed_slot (shape operations.Movw).b a, allowed_slot (shape operations.Movw).c a, allowed_last (shape operations.Movw).last, refl)
-first_of_row operations.Movk a = (allowed_slot (shape operations.Movk).b a, allowed_slot (shape operations.Movk).c a, allowed_last (shape operations.Movk).last, refl)
-first_of_row operations.Bi a = (allowed_slot (shape operations.Bi).b a, allowed_slot (shape operations.Bi).c a, allowed_last (shape operations.Bi).last, refl)
-first_of_row operations.Beq a = (allowed_slot (shape operations.Beq).b a, allowed_slot (shape operations.Beq).c a, allowed_last (shape operations.Beq).last, refl)
-first_of_row operations.Bne a = (allowed_slot (shape operations.Bne).b a, allowed_slot (shape operations.Bne).c a, allowed_last (shape operations.Bne).last, refl)
-first_of_row operations.Blt a = (allowed_slot (shape operations.Blt).b a, allowed_slot (shape operations.Blt).c a, allowed_last (shape operations.Blt).last, refl)
-first_of_row operations.Bge a = (allowed_slot (shape operations.Bge).b a, allowed_slot (shape operations.Bge).c a, allowed_last (shape operations.Bge).last, refl)
+abbrev HasFirst : Operation → ℕ → Type 0
+HasFirst o a = (b : Allowed) × (c : Allowed) × (imm : Allowed) × (row_of (opcode o) a ≡ Some (row (allowed_slot (shape o).a 0) b c imm))
+
+-- the row whose fields are those of the slots
+abbrev slots_row : Operation → ℕ → Row
+slots_row o a = row (allowed_slot (shape o).a 0) (allowed_slot (shape o).b a) (allowed_slot (shape o).c a) (allowed_last (shape o).last)
+
+by_slots : (o : Operation) (a : ℕ) → row_of (opcode o) a ≡ Some (slots_row o a) → HasFirst o a
+by_slots o a e = (allowed_slot (shape o).b a, allowed_slot (shape o).c a, allowed_last (shape o).last, e)
+
+-- so it is of each operation; the values of `bk` depend on its field
+first_of_row : (o : Operation) (a : ℕ) → HasFirst o a
+first_of_row operations.Nop a = by_slots operations.Nop a refl
+first_of_row operations.Add a = by_slots operations.Add a refl
+first_of_row operations.Sub a = by_slots operations.Sub a refl
+first_of_row operations.And a = by_slots operations.And a refl
+first_of_row operations.Or a = by_slots operations.Or a refl
+first_of_row operations.Xor a = by_slots operations.Xor a refl
+first_of_row operations.Shl a = by_slots operations.Shl a refl
+first_of_row operations.Shr a = by_slots operations.Shr a refl
+first_of_row operations.Addi a = by_slots operations.Addi a refl
+first_of_row operations.Not a = by_slots operations.Not a refl
+first_of_row operations.Neg a = by_slots operations.Neg a refl
+first_of_row operations.Mov a = by_slots operations.Mov a refl
+first_of_row operations.Movi a = by_slots operations.Movi a refl
+first_of_row operations.Mova a = by_slots operations.Mova a refl
+first_of_row operations.Movs a = by_slots operations.Movs a refl
+first_of_row operations.Movw a = by_slots operations.Movw a refl
+first_of_row operations.Movk a = by_slots operations.Movk a refl
+first_of_row operations.Bi a = by_slots operations.Bi a refl
+first_of_row operations.Beq a = by_slots operations.Beq a refl
+first_of_row operations.Bne a = by_slots operations.Bne a refl
+first_of_row operations.Blt a = by_slots operations.Blt a refl
+first_of_row operations.Bge a = by_slots operations.Bge a refl
 first_of_row operations.Bk a = (value_set a, allowed_slot slots.Nothing a, target, refl)
-first_of_row operations.Sf a = (allowed_slot (shape operations.Sf).b a, allowed_slot (shape operations.Sf).c a, allowed_last (shape operations.Sf).last, refl)
-first_of_row operations.Cf a = (allowed_slot (shape operations.Cf).b a, allowed_slot (shape operations.Cf).c a, allowed_last (shape operations.Cf).last, refl)
-first_of_row operations.Nf a = (allowed_slot (shape operations.Nf).b a, allowed_slot (shape operations.Nf).c a, allowed_last (shape operations.Nf).last, refl)
-first_of_row operations.Movf a = (allowed_slot (shape operations.Movf).b a, allowed_slot (shape operations.Movf).c a, allowed_last (shape operations.Movf).last, refl)
-first_of_row operations.Andf a = (allowed_slot (shape operations.Andf).b a, allowed_slot (shape operations.Andf).c a, allowed_last (shape operations.Andf).last, refl)
-first_of_row operations.Orf a = (allowed_slot (shape operations.Orf).b a, allowed_slot (shape operations.Orf).c a, allowed_last (shape operations.Orf).last, refl)
-first_of_row operations.Rdw a = (allowed_slot (shape operations.Rdw).b a, allowed_slot (shape operations.Rdw).c a, allowed_last (shape operations.Rdw).last, refl)
-first_of_row operations.Gad a = (allowed_slot (shape operations.Gad).b a, allowed_slot (shape operations.Gad).c a, allowed_last (shape operations.Gad).last, refl)
-first_of_row operations.Wde a = (allowed_slot (shape operations.Wde).b a, allowed_slot (shape operations.Wde).c a, allowed_last (shape operations.Wde).last, refl)
-first_of_row operations.Wds a = (allowed_slot (shape operations.Wds).b a, allowed_slot (shape operations.Wds).c a, allowed_last (shape operations.Wds).last, refl)
-first_of_row operations.Fin a = (allowed_slot (shape operations.Fin).b a, allowed_slot (shape operations.Fin).c a, allowed_last (shape operations.Fin).last, refl)
-first_of_row operations.Wfq a = (allowed_slot (shape operations.Wfq).b a, allowed_slot (shape operations.Wfq).c a, allowed_last (shape operations.Wfq).last, refl)
-first_of_row operations.Popq a = (allowed_slot (shape operations.Popq).b a, allowed_slot (shape operations.Popq).c a, allowed_last (shape operations.Popq).last, refl)
-first_of_row operations.Defer a = (allowed_slot (shape operations.Defer).b a, allowed_slot (shape operations.Defer).c a, allowed_last (shape operations.Defer).last, refl)
-first_of_row operations.Inv a = (allowed_slot (shape operations.Inv).b a, allowed_slot (shape operations.Inv).c a, allowed_last (shape operations.Inv).last, refl)
-first_of_row operations.Stwb a = (allowed_slot (shape operations.Stwb).b a, allowed_slot (shape operations.Stwb).c a, allowed_last (shape operations.Stwb).last, refl)
-first_of_row operations.Blk a = (allowed_slot (shape operations.Blk).b a, allowed_slot (shape operations.Blk).c a, allowed_last (shape operations.Blk).last, refl)
-first_of_row operations.Wake a = (allowed_slot (shape operations.Wake).b a, allowed_slot (shape operations.Wake).c a, allowed_last (shape operations.Wake).last, refl)
-first_of_row operations.Tr a = (allowed_slot (shape operations.Tr).b a, allowed_slot (shape operations.Tr).c a, allowed_last (shape operations.Tr).last, refl)
-first_of_row operations.Ucblk a = (allowed_slot (shape operations.Ucblk).b a, allowed_slot (shape operations.Ucblk).c a, allowed_last (shape operations.Ucblk).last, refl)
-first_of_row operations.Ucdone a = (allowed_slot (shape operations.Ucdone).b a, allowed_slot (shape operations.Ucdone).c a, allowed_last (shape operations.Ucdone).last, refl)
-first_of_row operations.Done a = (allowed_slot (shape operations.Done).b a, allowed_slot (shape operations.Done).c a, allowed_last (shape operations.Done).last, refl)
-first_of_row operations.Memrd a = (allowed_slot (shape operations.Memrd).b a, allowed_slot (shape operations.Memrd).c a, allowed_last (shape operations.Memrd).last, refl)
-first_of_row operations.Memwb a = (allowed_slot (shape operations.Memwb).b a, allowed_slot (shape operations.Memwb).c a, allowed_last (shape operations.Memwb).last, refl)
-first_of_row operations.Memww a = (allowed_slot (shape operations.Memww).b a, allowed_slot (shape operations.Memww).c a, allowed_last (shape operations.Memww).last, refl)
+first_of_row operations.Sf a = by_slots operations.Sf a refl
+first_of_row operations.Cf a = by_slots operations.Cf a refl
+first_of_row operations.Nf a = by_slots operations.Nf a refl
+first_of_row operations.Movf a = by_slots operations.Movf a refl
+first_of_row operations.Andf a = by_slots operations.Andf a refl
+first_of_row operations.Orf a = by_slots operations.Orf a refl
+first_of_row operations.Rdw a = by_slots operations.Rdw a refl
+first_of_row operations.Gad a = by_slots operations.Gad a refl
+first_of_row operations.Wde a = by_slots operations.Wde a refl
+first_of_row operations.Wds a = by_slots operations.Wds a refl
+first_of_row operations.Fin a = by_slots operations.Fin a refl
+first_of_row operations.Wfq a = by_slots operations.Wfq a refl
+first_of_row operations.Popq a = by_slots operations.Popq a refl
+first_of_row operations.Defer a = by_slots operations.Defer a refl
+first_of_row operations.Inv a = by_slots operations.Inv a refl
+first_of_row operations.Stwb a = by_slots operations.Stwb a refl
+first_of_row operations.Blk a = by_slots operations.Blk a refl
+first_of_row operations.Wake a = by_slots operations.Wake a refl
+first_of_row operations.Tr a = by_slots operations.Tr a refl
+first_of_row operations.Ucblk a = by_slots operations.Ucblk a refl
+first_of_row operations.Ucdone a = by_slots operations.Ucdone a refl
+first_of_row operations.Done a = by_slots operations.Done a refl
+first_of_row operations.Memrd a = by_slots operations.Memrd a refl
+first_of_row operations.Memwb a = by_slots operations.Memwb a refl
+first_of_row operations.Memww a = by_slots operations.Memww a refl
 
 -- the operation of a form has the code that the form's word has
 pub code_is : (f : Form) → (fields_of f).op ≡ opcode (operation_of f)
@@ -228,15 +247,20 @@ code_is forms.Memrd = refl
 code_is forms.Memwb = refl
 code_is forms.Memww = refl
 
+-- fields without a fault fit the operation
 fits_by : (o : Operation) (p : Fields) → fault_by p (row_of (opcode o) p.a) ≡ None → Fits o p
 fits_by o p e =
     let s = are_slots o in
     let r = first_of_row o p.a in
     let one = AdmitsAll-from_none (row (allowed_slot (shape o).a 0) r.0 r.1 r.2) p (sym (ap (fault_by p) r.3) ∙ e) in
     let a = slot_from (shape o).a 0 p.a s.0 one.a in
-    let all = AdmitsAll-from_none (row (allowed_slot (shape o).a 0) (allowed_slot (shape o).b p.a) (allowed_slot (shape o).c p.a) (allowed_last (shape o).last)) p
-    (sym (ap (fault_by p) (the_row o p.a a)) ∙ e) in
-    record { a = a; b = slot_from (shape o).b p.a p.b s.1 all.b; c = slot_from (shape o).c p.a p.c s.2 all.c; last = last_from (shape o).last p.imm all.imm }
+    let all = AdmitsAll-from_none (slots_row o p.a) p (sym (ap (fault_by p) (the_row o p.a a)) ∙ e) in
+    record {
+      a = a;
+      b = slot_from (shape o).b p.a p.b s.1 all.b;
+      c = slot_from (shape o).c p.a p.c s.2 all.c;
+      last = last_from (shape o).last p.imm all.imm;
+    }
 
 -- an instruction's operands fit its operation
 pub fits : (f : Form) → IsInRange f → Fits (operation_of f) (fields_of f)

@@ -111,6 +111,7 @@ mnemonic_words operations.Memrd = codes "pushq" ∷ codes "memrd" ∷ []
 mnemonic_words operations.Memwb = codes "pushq" ∷ codes "memwb" ∷ []
 mnemonic_words operations.Memww = codes "pushq" ∷ codes "memww" ∷ []
 
+-- the words of an instruction
 abbrev pub form_words : Form → List (List ℕ)
 form_words f = mnemonic_words (operation_of f) ++ operand_words (operation_of f) (fields_of f)
 
@@ -132,10 +133,12 @@ use_of lasts.Target line column n = Some (record { line = line; column = column;
 
 -- the instruction that a line gives, whose last operand stands in a column
 abbrev pub statement_of : ℕ → ℕ → Operation → Fields → Statement
-statement_of line column o p = record { operation = o; a = p.a; b = p.b; c = p.c; imm = imm_of (shape o).last p.imm; target = use_of (shape o).last line column p.imm }
+statement_of line column o p =
+    record { operation = o; a = p.a; b = p.b; c = p.c; imm = imm_of (shape o).last p.imm; target = use_of (shape o).last line column p.imm }
 
 -- ---- numbers
 
+-- the digits of a numeral are digits, bytes of words, and a word
 all_digits : (ds : List ℕ) → AllDigits 10 ds → list_all (is_digit 10) ds ≡ true
 all_digits [] h = refl
 all_digits (d ∷ ds) h = both (is_digit 10 d) (list_all (is_digit 10) ds) (grind (arith, nat_tests, h.0)) (all_digits ds h.1)
@@ -162,10 +165,12 @@ decimal_word n small =
 no_x : (b : ℕ) → is_digit 10 b ≡ true → (b == 120) ≡ false
 no_x b e = grind (arith, nat_tests)
 
+-- a test with one that fails
 and_false : (a : Bool) → a && false ≡ false
 and_false true = refl
 and_false false = refl
 
+-- a numeral of digits is a decimal number
 decimal_number : (ds : List ℕ) → list_all (is_digit 10) ds ≡ true → number_of ds ≡ digits_number 10 20 ds
 decimal_number [] e = refl
 decimal_number (a ∷ []) e = refl
@@ -175,6 +180,7 @@ decimal_number (a ∷ b ∷ ds) e =
     ap (λ t. cond ((a == 48) && t) (digits_number 16 16 ds) (digits_number 10 20 (a ∷ b ∷ ds))) (no_x b q.0)
     ∙ ap (λ t. cond t (digits_number 16 16 ds) (digits_number 10 20 (a ∷ b ∷ ds))) (and_false (a == 48))
 
+-- a number in decimal digits is read as that number
 decimal_again : (n : ℕ) → n < 2 ^ 64 → number_of (decimal n) ≡ Some n
 decimal_again n small =
     let d = decimal_is_IsNumeral n small in
@@ -182,6 +188,7 @@ decimal_again n small =
     let short : length (decimal n) ≤ 20 = length-decimal-le 20 n (omega arith) (omega arith) small in
     decimal_number (decimal n) all ∙ some_number 10 20 (decimal n) d.0.0 short all (omega (arith, d.1)) ∙ ap Some d.1
 
+-- the same where it is below a limit
 below_again : (limit n : ℕ) → n < limit → limit ≤ 2 ^ 32 → number_below limit (decimal n) ≡ Some n
 unfolding number_below
 below_again limit n small low =
@@ -190,6 +197,7 @@ below_again limit n small low =
 
 -- ---- operands
 
+-- a word that is read as something
 pub field_read : {X : Type 0} (absent kind : Kind) (read : List ℕ → Option X) (c end : ℕ) (w : List ℕ) (ws : List Marked) (x : X) → read w ≡ Some x
     → field absent kind read (row (marked c w ∷ ws) end) ≡ Ok (x, row ws end)
 unfolding field
@@ -203,6 +211,7 @@ FieldOk (slots.Perhaps sort) f = Unit {0}
 FieldOk slots.Classes f = Unit {0}
 FieldOk slots.Values f = is_value names.Tested f ≡ true
 
+-- whether an operand may be missing
 abbrev is_perhaps : Slot → Bool
 is_perhaps slots.Nothing = false
 is_perhaps (slots.Name sort) = false
@@ -216,18 +225,23 @@ record IsSlot (slot : Slot) (f n c end : ℕ) (more : List (List ℕ)) : Type 0 
   read : slot_at slot f (row (marks c (slot_words slot f n ++ more)) end) ≡ Ok (n, row (marks (past c (slot_words slot f n)) more) end)
   text : slot_text slot f n ≡ spaced (slot_words slot f n)
 
+-- a word with a blank before it
 spaced_one : (w : List ℕ) → codes " " ++ w ≡ spaced (w ∷ [])
 spaced_one w = ap (λ l. 32 ∷ l) (sym (append-nil w))
 
+-- a word alone
 one_word : (w : List ℕ) → is_word w ≡ true → list_all is_word (w ∷ []) ≡ true
 one_word w e = both (is_word w) true e refl
 
+-- an operand that may be missing, and is
 none_written : (sort : Names) (f n c end : ℕ) (more : List (List ℕ)) → n ≡ 0 → more ≡ [] → IsSlot (slots.Perhaps sort) f n c end more
 none_written sort f n c end more z none =
     subst (λ (k : ℕ). IsSlot (slots.Perhaps sort) f k c end more) (sym z)
     (subst (λ (ws : List (List ℕ)). IsSlot (slots.Perhaps sort) f 0 c end ws) (sym none) (record { words = refl; read = refl; text = refl }))
 
-one_written : (sort : Names) (f n c end : ℕ) (more : List (List ℕ)) → (n == 0) ≡ false → is_value sort n ≡ true → IsSlot (slots.Perhaps sort) f n c end more
+-- an operand that may be missing, and is not
+one_written : (sort : Names) (f n c end : ℕ) (more : List (List ℕ)) → (n == 0) ≡ false → is_value sort n ≡ true
+    → IsSlot (slots.Perhaps sort) f n c end more
 one_written sort f n c end more not h =
     let w = name_of (names_of sort) n in
     let t = name_again sort n h in
@@ -240,12 +254,20 @@ one_written sort f n c end more not h =
       text = ap (λ b. cond b [] (codes " " ++ w)) not ∙ spaced_one w ∙ ap spaced (sym e);
     }
 
-slot_read : (slot : Slot) (f n c end : ℕ) (more : List (List ℕ)) → slot_ok slot f n ≡ true → FieldOk slot f → (is_perhaps slot ≡ true → more ≡ []) → IsSlot slot f n c end more
-slot_read slots.Nothing f n c end more e g h = let z = eqb-true n 0 e in record { words = refl; read = ap (λ k. Ok (k, row (marks c more) end)) (sym z); text = refl }
+-- each operand a, b or c
+slot_read : (slot : Slot) (f n c end : ℕ) (more : List (List ℕ)) → slot_ok slot f n ≡ true → FieldOk slot f → (is_perhaps slot ≡ true → more ≡ [])
+    → IsSlot slot f n c end more
+slot_read slots.Nothing f n c end more e g h =
+    let z = eqb-true n 0 e in
+    record { words = refl; read = ap (λ k. Ok (k, row (marks c more) end)) (sym z); text = refl }
 slot_read (slots.Name sort) f n c end more e g h =
     let w = name_of (names_of sort) n in
     let t = name_again sort n e in
-    record { words = one_word w t.0; read = field_read kinds.Operand kinds.Operand (named (names_of sort)) c end w (marks (c + (length w + 1)) more) n t.1; text = spaced_one w }
+    record {
+      words = one_word w t.0;
+      read = field_read kinds.Operand kinds.Operand (named (names_of sort)) c end w (marks (c + (length w + 1)) more) n t.1;
+      text = spaced_one w;
+    }
 slot_read (slots.Perhaps sort) f n c end more e g h =
     elim (tested (n == 0)) [
       | inl is ↦ none_written sort f n c end more (eqb-true n 0 is) (h refl)
@@ -255,28 +277,43 @@ slot_read slots.Classes f n c end more e g h =
     let w = set_text class_names true (codes ",") n in
     let b = and_parts (nat_lt 0 n) (nat_lt n 8) e in
     let t = classes_again n (grind (arith, nat_tests, b.0)) (grind (arith, nat_tests, b.1)) in
-    record { words = one_word w t.0; read = field_read kinds.Operand kinds.Operand (joined class_names 44) c end w (marks (c + (length w + 1)) more) n t.1; text = spaced_one w }
+    record {
+      words = one_word w t.0;
+      read = field_read kinds.Operand kinds.Operand (joined class_names 44) c end w (marks (c + (length w + 1)) more) n t.1;
+      text = spaced_one w;
+    }
 slot_read slots.Values f n c end more e g h =
     let w = set_text (value_names f) true (codes ",") n in
     let b = and_parts (nat_lt 0 n) (nat_lt n (limit_of f)) e in
     let t = values_again f n g (grind (arith, nat_tests, b.0)) (grind (arith, nat_tests, b.1)) in
-    record { words = one_word w t.0; read = field_read kinds.Operand kinds.Operand (joined (value_names f) 44) c end w (marks (c + (length w + 1)) more) n t.1; text = spaced_one w }
+    record {
+      words = one_word w t.0;
+      read = field_read kinds.Operand kinds.Operand (joined (value_names f) 44) c end w (marks (c + (length w + 1)) more) n t.1;
+      text = spaced_one w;
+    }
 
+-- the last operand: its words are words, and are read as it
 record IsLast (last : Last) (line n c end : ℕ) : Type 0 where
   words : list_all is_word (last_words last n) ≡ true
   read : last_at last line (row (marks c (last_words last n)) end) ≡ Ok ((imm_of last n, use_of last line c n), row [] end)
   text : last_text last n ≡ spaced (last_words last n)
 
+-- a number as the last operand
 number_read : (limit n c end : ℕ) → n < limit → limit ≤ 2 ^ 32 → number_at limit (row (marked c (decimal n) ∷ []) end) ≡ Ok ((n, None), row [] end)
 unfolding number_at
 number_read limit n c end lt small =
-    ap (λ (r : Result (ℕ × LineWords) At). r >>= λ n. Ok ((n.0, None), n.1)) (field_read kinds.Operand kinds.Number (number_below limit) c end (decimal n) [] n (below_again limit n lt small))
+    ap (λ (r : Result (ℕ × LineWords) At). r >>= λ n. Ok ((n.0, None), n.1))
+    (field_read kinds.Operand kinds.Number (number_below limit) c end (decimal n) [] n (below_again limit n lt small))
 
-target_read : (line n c end : ℕ) → is_label (label_text n) ≡ true → target_at line (row (marked c (label_text n) ∷ []) end) ≡ Ok ((0, Some (record { line = line; column = c; name = label_text n })), row [] end)
+-- a label as the last operand
+target_read : (line n c end : ℕ) → is_label (label_text n) ≡ true
+    → target_at line (row (marked c (label_text n) ∷ []) end) ≡ Ok ((0, Some (record { line = line; column = c; name = label_text n })), row [] end)
 unfolding target_at
 target_read line n c end e =
-    ap (λ b. or_wrong (marked c (label_text n)) kinds.Operand (cond b (Some (label_text n)) None) >>= λ name. Ok ((0, Some (record { line = line; column = c; name = name })), row [] end)) e
+    ap (λ b. or_wrong (marked c (label_text n)) kinds.Operand (cond b (Some (label_text n)) None) >>=
+    λ name. Ok ((0, Some (record { line = line; column = c; name = name })), row [] end)) e
 
+-- each last operand
 last_read : (last : Last) (line n c end : ℕ) → last_ok last n ≡ true → IsLast last line n c end
 last_read lasts.Nothing line n c end e = let z = eqb-true n 0 e in record { words = refl; read = ap (λ k. Ok ((k, None), row [] end)) (sym z); text = refl }
 last_read lasts.Shift line n c end e =
@@ -296,10 +333,12 @@ record IsOrderly (o : Operation) (p : Fields) : Type 0 where
   a : FieldOk (shape o).a 0
   b : slot_ok (shape o).a 0 p.a ≡ true → FieldOk (shape o).b p.a
   c : FieldOk (shape o).c p.a
-  none_behind : is_perhaps (shape o).a ≡ true → slot_words (shape o).b p.a p.b ++ (slot_words (shape o).c p.a p.c ++ last_words (shape o).last p.imm) ≡ []
+  none_behind : is_perhaps (shape o).a ≡ true
+      → slot_words (shape o).b p.a p.b ++ (slot_words (shape o).c p.a p.c ++ last_words (shape o).last p.imm) ≡ []
   not_b : is_perhaps (shape o).b ≡ false
   not_c : is_perhaps (shape o).c ≡ false
 
+-- so it is of each operation
 orderly : (o : Operation) (p : Fields) → IsOrderly o p
 orderly operations.Nop p = record { a = tt; b = (λ e. tt); c = tt; none_behind = (λ e. absurd cc); not_b = refl; not_c = refl }
 orderly operations.Add p = record { a = tt; b = (λ e. tt); c = tt; none_behind = (λ e. absurd cc); not_b = refl; not_c = refl }
@@ -350,13 +389,15 @@ orderly operations.Memrd p = record { a = tt; b = (λ e. tt); c = tt; none_behin
 orderly operations.Memwb p = record { a = tt; b = (λ e. tt); c = tt; none_behind = (λ e. absurd cc); not_b = refl; not_c = refl }
 orderly operations.Memww p = record { a = tt; b = (λ e. tt); c = tt; none_behind = (λ e. absurd cc); not_b = refl; not_c = refl }
 
+-- nothing is owed where no operand may be missing
 never : (b : Bool) (ws : List (List ℕ)) → b ≡ false → b ≡ true → ws ≡ []
 never true ws e f = absurd cc
 never false ws e f = absurd cc
 
 -- the operands of an operation, by what each is read as
 operands_by : (line : ℕ) (o : Operation) (r0 r1 r2 r3 : LineWords) (a b c imm : ℕ) (u : Option Use)
-    → slot_at (shape o).a 0 r0 ≡ Ok (a, r1) → slot_at (shape o).b a r1 ≡ Ok (b, r2) → slot_at (shape o).c a r2 ≡ Ok (c, r3) → (end : ℕ) → last_at (shape o).last line r3 ≡ Ok ((imm, u), row [] end)
+    → slot_at (shape o).a 0 r0 ≡ Ok (a, r1) → slot_at (shape o).b a r1 ≡ Ok (b, r2) → slot_at (shape o).c a r2 ≡ Ok (c, r3) → (end : ℕ)
+    → last_at (shape o).last line r3 ≡ Ok ((imm, u), row [] end)
     → operands_at line o r0 ≡ Ok (record { operation = o; a = a; b = b; c = c; imm = imm; target = u })
 unfolding operands_at
 operands_by line o r0 r1 r2 r3 a b c imm u ea eb ec end el = rw (ea, eb, ec, el) refl
@@ -365,17 +406,22 @@ operands_by line o r0 r1 r2 r3 a b c imm u ea eb ec end el = rw (ea, eb, ec, el)
 abbrev pub last_column : ℕ → Operation → Fields → ℕ
 last_column c o p = past (past (past c (slot_words (shape o).a 0 p.a)) (slot_words (shape o).b p.a p.b)) (slot_words (shape o).c p.a p.c)
 
+-- the operands of an operation: their words are words, and are read as they
 record AreOperands (line c end : ℕ) (o : Operation) (p : Fields) : Type 0 where
   words : list_all is_word (operand_words o p) ≡ true
   read : operands_at line o (row (marks c (operand_words o p)) end) ≡ Ok (statement_of line (last_column c o p) o p)
-  text : slot_text (shape o).a 0 p.a ++ slot_text (shape o).b p.a p.b ++ slot_text (shape o).c p.a p.c ++ last_text (shape o).last p.imm ≡ spaced (operand_words o p)
+  text : slot_text (shape o).a 0 p.a ++ slot_text (shape o).b p.a p.b ++ slot_text (shape o).c p.a p.c ++ last_text (shape o).last p.imm
+      ≡ spaced (operand_words o p)
 
+-- the text of four lists of words
 texts_append : (a b c d : List (List ℕ)) → spaced a ++ spaced b ++ spaced c ++ spaced d ≡ spaced (a ++ (b ++ (c ++ d)))
 texts_append a b c d = simp (spaced_append, append_assoc)
 
-four_texts : (a b c d : List (List ℕ)) (x y z w : List ℕ) → x ≡ spaced a → y ≡ spaced b → z ≡ spaced c → w ≡ spaced d → x ++ y ++ z ++ w ≡ spaced (a ++ (b ++ (c ++ d)))
+four_texts : (a b c d : List (List ℕ)) (x y z w : List ℕ) → x ≡ spaced a → y ≡ spaced b → z ≡ spaced c → w ≡ spaced d
+    → x ++ y ++ z ++ w ≡ spaced (a ++ (b ++ (c ++ d)))
 four_texts a b c d x y z w ea eb ec ed = rw (ea, eb, ec, ed) (texts_append a b c d)
 
+-- operands that fit are read again
 operands_read : (line c end : ℕ) (o : Operation) (p : Fields) → Fits o p → AreOperands line c end o p
 operands_read line c end o p h =
     let k = orderly o p in
@@ -392,7 +438,8 @@ operands_read line c end o p h =
     let l = last_read (shape o).last line p.imm cc' end h.last in
     record {
       words = words_append wa (wb ++ (wc ++ wl)) a.words (words_append wb (wc ++ wl) b.words (words_append wc wl d.words l.words));
-      read = operands_by line o (row (marks c (operand_words o p)) end) (row (marks ca (wb ++ (wc ++ wl))) end) (row (marks cb (wc ++ wl)) end) (row (marks cc' wl) end)
+      read = operands_by line o (row (marks c (operand_words o p)) end)
+          (row (marks ca (wb ++ (wc ++ wl))) end) (row (marks cb (wc ++ wl)) end) (row (marks cc' wl) end)
           p.a p.b p.c (imm_of (shape o).last p.imm) (use_of (shape o).last line cc' p.imm) a.read b.read d.read end l.read;
       text = four_texts wa wb wc wl (slot_text (shape o).a 0 p.a) (slot_text (shape o).b p.a p.b) (slot_text (shape o).c p.a p.c) (last_text (shape o).last p.imm)
           a.text b.text d.text l.text;
@@ -405,6 +452,7 @@ record IsMnemonic (o : Operation) : Type 0 where
   text : 32 ∷ mnemonic o ≡ spaced (mnemonic_words o)
   words : list_all is_word (mnemonic_words o) ≡ true
 
+-- each mnemonic is so
 mnemonic_good : (o : Operation) → IsMnemonic o
 mnemonic_good operations.Nop = record { text = refl; words = refl }
 mnemonic_good operations.Add = record { text = refl; words = refl }
@@ -456,7 +504,8 @@ mnemonic_good operations.Memwb = record { text = refl; words = refl }
 mnemonic_good operations.Memww = record { text = refl; words = refl }
 
 -- an instruction's line, by what its operands are
-mnemonic_read : (o : Operation) (labels : List Naming) (known : Bool) (line end : ℕ) (ws : List (List ℕ)) → line_at labels false known line (row (marks 3 (mnemonic_words o ++ ws)) end) (marks 3 (mnemonic_words o ++ ws))
+mnemonic_read : (o : Operation) (labels : List Naming) (known : Bool) (line end : ℕ) (ws : List (List ℕ))
+    → line_at labels false known line (row (marks 3 (mnemonic_words o ++ ws)) end) (marks 3 (mnemonic_words o ++ ws))
     ≡ (operands_at line o (row (marks (past 3 (mnemonic_words o)) ws) end) >>= λ statement. Ok (parts None (Some statement)))
 unfolding line_at labelled_at content_at mnemonic_at field
 mnemonic_read operations.Nop labels known line end ws = refl
@@ -512,6 +561,7 @@ mnemonic_read operations.Memww labels known line end ws = refl
 abbrev pub form_bytes : Form → List ℕ
 form_bytes f = 32 ∷ spaced (form_words f)
 
+-- a mnemonic and its operands, by their text
 front_of : (h a b c d : List ℕ) → h ++ a ++ b ++ c ++ d ≡ h ++ (a ++ b ++ c ++ d)
 front_of h a b c d = simp append_assoc
 
@@ -521,6 +571,7 @@ form_is_words f h =
     let o = operation_of f in
     words_append (mnemonic_words o) (operand_words o (fields_of f)) (mnemonic_good o).words (operands_read 0 0 0 o (fields_of f) (fits f h)).words
 
+-- the text of an instruction is its words
 form_spaced : (f : Form) → IsInRange f → 32 ∷ form_text f ≡ spaced (form_words f)
 form_spaced f h =
     let o = operation_of f in
@@ -537,7 +588,8 @@ form_bytes_are f h = ap (λ l. (32 ∷ l) ++ 10 ∷ []) (form_spaced f h)
 
 -- an instruction is read from its line
 pub form_read : (f : Form) (labels : List Naming) (known : Bool) (line : ℕ) → IsInRange f
-    → (column : ℕ) × (line_at labels false known line (row_at (form_bytes f)) (row_at (form_bytes f)).words ≡ Ok (parts None (Some (statement_of line column (operation_of f) (fields_of f)))))
+    → (column : ℕ) × (line_at labels false known line (row_at (form_bytes f)) (row_at (form_bytes f)).words
+    ≡ Ok (parts None (Some (statement_of line column (operation_of f) (fields_of f)))))
 form_read f labels known line h =
     let o = operation_of f in
     let p = fields_of f in

@@ -26,13 +26,16 @@ use Rattle.bk_asm.proofs.Computed.{entry_word, IsEntry, fields_again}
 
 -- ---- the sets of a mask are in their ranges
 
+-- a remainder is less than what was divided by
 remainder : (m n x : ℕ) → 0 < n → m % n ≡ x → x < n
 remainder m n x some e = subst (λ (k : ℕ). k < n) e (mod-lt m some)
 
+-- two tests that fail
 or_parts : (a b : Bool) → a || b ≡ false → (a ≡ false) × (b ≡ false)
 or_parts true b e = absurd cc
 or_parts false b e = (refl, e)
 
+-- a number that is not 0
 some_of : (n : ℕ) → (n == 0) ≡ false → 0 < n
 some_of n e = grind (arith, nat_tests, e)
 
@@ -56,6 +59,7 @@ record NoneEmpty (s : Sets) : Type 0 where
   f2 : 0 < s.f2
   f3 : 0 < s.f3
 
+-- nine numbers that are not 0
 nine : (a b c d e f g h i : ℕ) → (a == 0) || (b == 0) || (c == 0) || (d == 0) || (e == 0) || (f == 0) || (g == 0) || (h == 0) || (i == 0) ≡ false
     → (0 < a) × (0 < b) × (0 < c) × (0 < d) × (0 < e) × (0 < f) × (0 < g) × (0 < h) × (0 < i)
 nine a b c d e f g h i t =
@@ -101,41 +105,78 @@ in_range s h =
 abbrev HaveSets : List Naming → Sets → Type 0
 HaveSets fields s = AllByRecursion (λ name. IsSet (limit_of name.1) (field s name.1)) fields
 
+-- each field of the table has a set of its values
 all_sets : (s : Sets) → AreInRange s → HaveSets (names_of names.Field) s
-all_sets s h = (h.stage, (h.head, (h.gp, (h.kind, (h.summ, (h.own, (h.owner, (h.others, (h.victim, (h.acks, (h.wb, (h.mem, (h.dreq, (h.down, (h.f0, (h.f1, (h.f2, (h.f3, tt))))))))))))))))))
+all_sets s h = (
+  h.stage,
+  (
+    h.head,
+    (
+      h.gp,
+      (
+        h.kind,
+        (
+          h.summ,
+          (
+            h.own,
+            (
+              h.owner,
+              (
+                h.others,
+                (
+                  h.victim,
+                  (h.acks, (h.wb, (h.mem, (h.dreq, (h.down, (h.f0, (h.f1, (h.f2, (h.f3, tt))))))))),
+                ),
+              ),
+            ),
+          ),
+        ),
+      ),
+    ),
+  ),
+)
 
 -- ---- entries
 
 -- the entries of fields whose sets differ from those of a base
 abbrev pub entry_words : List Naming → Sets → Sets → List (List ℕ)
 entry_words [] base sets = []
-entry_words (name ∷ more) base sets = cond (field sets name.1 == field base name.1) (entry_words more base sets) (entry_word name (field sets name.1) ∷ entry_words more base sets)
+entry_words (name ∷ more) base sets =
+    cond (field sets name.1 == field base name.1) (entry_words more base sets) (entry_word name (field sets name.1) ∷ entry_words more base sets)
 
 -- sets with those of fields that differ from the base
 abbrev applied : List Naming → Sets → Sets → Sets → Sets
 applied [] base sets s = s
 applied (name ∷ more) base sets s = applied more base sets (cond (field sets name.1 == field base name.1) s (with_field s name.1 (field sets name.1)))
 
+-- an entry, if the field differs, before other entries
 text_step : (b : Bool) (w more : List ℕ) (ws : List (List ℕ)) → spaced ws ≡ more → cond b [] (32 ∷ w) ++ more ≡ spaced (cond b ws (w ∷ ws))
 text_step true w more ws e = sym e
 text_step false w more ws e = ap (λ l. 32 ∷ (w ++ l)) (sym e)
 
+-- the text of the fields that differ is that of the entries
 entries_text : (fields : List Naming) (base sets : Sets) → fields_text fields base sets ≡ spaced (entry_words fields base sets)
 entries_text [] base sets = refl
 entries_text (name ∷ more) base sets =
-    text_step (field sets name.1 == field base name.1) (entry_word name (field sets name.1)) (fields_text more base sets) (entry_words more base sets) (sym (entries_text more base sets))
+    text_step (field sets name.1 == field base name.1) (entry_word name (field sets name.1)) (fields_text more base sets) (entry_words more base sets)
+    (sym (entries_text more base sets))
 
+-- each field gives an entry that is read again
 abbrev AreEntries : List Naming → Sets → Type 0
 AreEntries fields sets = AllByRecursion (λ name. IsEntry name (field sets name.1)) fields
 
-words_step : (b : Bool) (w : List ℕ) (ws : List (List ℕ)) → is_word w ≡ true → list_all is_word ws ≡ true → list_all is_word (cond b ws (w ∷ ws)) ≡ true
+-- an entry, if the field differs, is a word
+words_step : (b : Bool) (w : List ℕ) (ws : List (List ℕ)) → is_word w ≡ true → list_all is_word ws ≡ true
+    → list_all is_word (cond b ws (w ∷ ws)) ≡ true
 words_step true w ws e f = f
 words_step false w ws e f = both (is_word w) (list_all is_word ws) e f
 
+-- the entries are words
 entries_are_words : (fields : List Naming) (base sets : Sets) → AreEntries fields sets → list_all is_word (entry_words fields base sets) ≡ true
 entries_are_words [] base sets h = refl
 entries_are_words (name ∷ more) base sets h =
-    words_step (field sets name.1 == field base name.1) (entry_word name (field sets name.1)) (entry_words more base sets) h.0.word (entries_are_words more base sets h.1)
+    words_step (field sets name.1 == field base name.1) (entry_word name (field sets name.1)) (entry_words more base sets) h.0.word
+    (entries_are_words more base sets h.1)
 
 -- a field above all that were seen
 is_fresh : (seen least k : ℕ) → seen < 2 ^ least → least ≤ k → fresh seen k ≡ Some k
@@ -144,6 +185,7 @@ is_fresh seen least k lt le =
     let none : seen / 2 ^ k ≡ 0 = div-eq_of_lt (omega (arith, high)) in
     rw none refl
 
+-- the fields that were seen are below the next
 seen_more : (seen least k : ℕ) → seen < 2 ^ least → least ≤ k → seen < 2 ^ (k + 1)
 seen_more seen least k lt le =
     let high : 2 ^ least ≤ 2 ^ (k + 1) = pow-le-pow_right {n = 2} (omega arith) (omega arith) in
@@ -152,7 +194,9 @@ seen_more seen least k lt le =
 seen_one : (seen least k : ℕ) → seen < 2 ^ least → least ≤ k → bit_or seen (2 ^ k) < 2 ^ (k + 1)
 seen_one seen least k lt le = or_lt (k + 1) seen (2 ^ k) (seen_more seen least k lt le) (pow-lt (omega arith))
 
-entry_read : (seen least : ℕ) (name : Naming) (n : ℕ) → seen < 2 ^ least → least ≤ name.1 → IsEntry name n → entry_of seen (entry_word name n) ≡ Some (name.1, n)
+-- an entry of a field above those that were seen
+entry_read : (seen least : ℕ) (name : Naming) (n : ℕ) → seen < 2 ^ least → least ≤ name.1 → IsEntry name n
+    → entry_of seen (entry_word name n) ≡ Some (name.1, n)
 unfolding entry_of
 entry_read seen least name n lt le h =
     let cut = cut_at 61 (entry_word name n) in
@@ -183,7 +227,8 @@ entries_read (name ∷ more) base sets s seen least c lt up h =
       | inr other ↦
           ap (λ b. entries_at s seen None (marks c (cond b ws (w ∷ ws)))) other
           ∙ entries_on s seen None (marked c w) (marks (c + (length w + 1)) ws) (name.1, n) (entry_read seen least name n lt le h.0)
-          ∙ entries_read more base sets (with_field s name.1 n) (bit_or seen (2 ^ name.1)) (name.1 + 1) (c + (length w + 1)) (seen_one seen least name.1 lt le) t.1 h.1
+          ∙ entries_read more base sets (with_field s name.1 n) (bit_or seen (2 ^ name.1)) (name.1 + 1) (c + (length w + 1))
+          (seen_one seen least name.1 lt le) t.1 h.1
           ∙ ap (λ b. Ok (applied more base sets (cond b s (with_field s name.1 n)))) (sym other)
     ]
 
@@ -197,24 +242,41 @@ step make x y = elim (tested (x == y)) [
 -- with each field that differs put in its place, a base becomes the sets
 all_applied : (base s : Sets) → applied (names_of names.Field) base s base ≡ s
 all_applied base s =
-    ap (applied (drop 1 (names_of names.Field)) base s) (step (λ v. record { stage = v; head = base.head; gp = base.gp; kind = base.kind; summ = base.summ; own = base.own; owner = base.owner; others = base.others; victim = base.victim; acks = base.acks; wb = base.wb; mem = base.mem; dreq = base.dreq; down = base.down; f0 = base.f0; f1 = base.f1; f2 = base.f2; f3 = base.f3 }) s.stage base.stage)
-    ∙ ap (applied (drop 2 (names_of names.Field)) base s) (step (λ v. record { stage = s.stage; head = v; gp = base.gp; kind = base.kind; summ = base.summ; own = base.own; owner = base.owner; others = base.others; victim = base.victim; acks = base.acks; wb = base.wb; mem = base.mem; dreq = base.dreq; down = base.down; f0 = base.f0; f1 = base.f1; f2 = base.f2; f3 = base.f3 }) s.head base.head)
-    ∙ ap (applied (drop 3 (names_of names.Field)) base s) (step (λ v. record { stage = s.stage; head = s.head; gp = v; kind = base.kind; summ = base.summ; own = base.own; owner = base.owner; others = base.others; victim = base.victim; acks = base.acks; wb = base.wb; mem = base.mem; dreq = base.dreq; down = base.down; f0 = base.f0; f1 = base.f1; f2 = base.f2; f3 = base.f3 }) s.gp base.gp)
-    ∙ ap (applied (drop 4 (names_of names.Field)) base s) (step (λ v. record { stage = s.stage; head = s.head; gp = s.gp; kind = v; summ = base.summ; own = base.own; owner = base.owner; others = base.others; victim = base.victim; acks = base.acks; wb = base.wb; mem = base.mem; dreq = base.dreq; down = base.down; f0 = base.f0; f1 = base.f1; f2 = base.f2; f3 = base.f3 }) s.kind base.kind)
-    ∙ ap (applied (drop 5 (names_of names.Field)) base s) (step (λ v. record { stage = s.stage; head = s.head; gp = s.gp; kind = s.kind; summ = v; own = base.own; owner = base.owner; others = base.others; victim = base.victim; acks = base.acks; wb = base.wb; mem = base.mem; dreq = base.dreq; down = base.down; f0 = base.f0; f1 = base.f1; f2 = base.f2; f3 = base.f3 }) s.summ base.summ)
-    ∙ ap (applied (drop 6 (names_of names.Field)) base s) (step (λ v. record { stage = s.stage; head = s.head; gp = s.gp; kind = s.kind; summ = s.summ; own = v; owner = base.owner; others = base.others; victim = base.victim; acks = base.acks; wb = base.wb; mem = base.mem; dreq = base.dreq; down = base.down; f0 = base.f0; f1 = base.f1; f2 = base.f2; f3 = base.f3 }) s.own base.own)
-    ∙ ap (applied (drop 7 (names_of names.Field)) base s) (step (λ v. record { stage = s.stage; head = s.head; gp = s.gp; kind = s.kind; summ = s.summ; own = s.own; owner = v; others = base.others; victim = base.victim; acks = base.acks; wb = base.wb; mem = base.mem; dreq = base.dreq; down = base.down; f0 = base.f0; f1 = base.f1; f2 = base.f2; f3 = base.f3 }) s.owner base.owner)
-    ∙ ap (applied (drop 8 (names_of names.Field)) base s) (step (λ v. record { stage = s.stage; head = s.head; gp = s.gp; kind = s.kind; summ = s.summ; own = s.own; owner = s.owner; others = v; victim = base.victim; acks = base.acks; wb = base.wb; mem = base.mem; dreq = base.dreq; down = base.down; f0 = base.f0; f1 = base.f1; f2 = base.f2; f3 = base.f3 }) s.others base.others)
-    ∙ ap (applied (drop 9 (names_of names.Field)) base s) (step (λ v. record { stage = s.stage; head = s.head; gp = s.gp; kind = s.kind; summ = s.summ; own = s.own; owner = s.owner; others = s.others; victim = v; acks = base.acks; wb = base.wb; mem = base.mem; dreq = base.dreq; down = base.down; f0 = base.f0; f1 = base.f1; f2 = base.f2; f3 = base.f3 }) s.victim base.victim)
-    ∙ ap (applied (drop 10 (names_of names.Field)) base s) (step (λ v. record { stage = s.stage; head = s.head; gp = s.gp; kind = s.kind; summ = s.summ; own = s.own; owner = s.owner; others = s.others; victim = s.victim; acks = v; wb = base.wb; mem = base.mem; dreq = base.dreq; down = base.down; f0 = base.f0; f1 = base.f1; f2 = base.f2; f3 = base.f3 }) s.acks base.acks)
-    ∙ ap (applied (drop 11 (names_of names.Field)) base s) (step (λ v. record { stage = s.stage; head = s.head; gp = s.gp; kind = s.kind; summ = s.summ; own = s.own; owner = s.owner; others = s.others; victim = s.victim; acks = s.acks; wb = v; mem = base.mem; dreq = base.dreq; down = base.down; f0 = base.f0; f1 = base.f1; f2 = base.f2; f3 = base.f3 }) s.wb base.wb)
-    ∙ ap (applied (drop 12 (names_of names.Field)) base s) (step (λ v. record { stage = s.stage; head = s.head; gp = s.gp; kind = s.kind; summ = s.summ; own = s.own; owner = s.owner; others = s.others; victim = s.victim; acks = s.acks; wb = s.wb; mem = v; dreq = base.dreq; down = base.down; f0 = base.f0; f1 = base.f1; f2 = base.f2; f3 = base.f3 }) s.mem base.mem)
-    ∙ ap (applied (drop 13 (names_of names.Field)) base s) (step (λ v. record { stage = s.stage; head = s.head; gp = s.gp; kind = s.kind; summ = s.summ; own = s.own; owner = s.owner; others = s.others; victim = s.victim; acks = s.acks; wb = s.wb; mem = s.mem; dreq = v; down = base.down; f0 = base.f0; f1 = base.f1; f2 = base.f2; f3 = base.f3 }) s.dreq base.dreq)
-    ∙ ap (applied (drop 14 (names_of names.Field)) base s) (step (λ v. record { stage = s.stage; head = s.head; gp = s.gp; kind = s.kind; summ = s.summ; own = s.own; owner = s.owner; others = s.others; victim = s.victim; acks = s.acks; wb = s.wb; mem = s.mem; dreq = s.dreq; down = v; f0 = base.f0; f1 = base.f1; f2 = base.f2; f3 = base.f3 }) s.down base.down)
-    ∙ ap (applied (drop 15 (names_of names.Field)) base s) (step (λ v. record { stage = s.stage; head = s.head; gp = s.gp; kind = s.kind; summ = s.summ; own = s.own; owner = s.owner; others = s.others; victim = s.victim; acks = s.acks; wb = s.wb; mem = s.mem; dreq = s.dreq; down = s.down; f0 = v; f1 = base.f1; f2 = base.f2; f3 = base.f3 }) s.f0 base.f0)
-    ∙ ap (applied (drop 16 (names_of names.Field)) base s) (step (λ v. record { stage = s.stage; head = s.head; gp = s.gp; kind = s.kind; summ = s.summ; own = s.own; owner = s.owner; others = s.others; victim = s.victim; acks = s.acks; wb = s.wb; mem = s.mem; dreq = s.dreq; down = s.down; f0 = s.f0; f1 = v; f2 = base.f2; f3 = base.f3 }) s.f1 base.f1)
-    ∙ ap (applied (drop 17 (names_of names.Field)) base s) (step (λ v. record { stage = s.stage; head = s.head; gp = s.gp; kind = s.kind; summ = s.summ; own = s.own; owner = s.owner; others = s.others; victim = s.victim; acks = s.acks; wb = s.wb; mem = s.mem; dreq = s.dreq; down = s.down; f0 = s.f0; f1 = s.f1; f2 = v; f3 = base.f3 }) s.f2 base.f2)
-    ∙ ap (applied (drop 18 (names_of names.Field)) base s) (step (λ v. record { stage = s.stage; head = s.head; gp = s.gp; kind = s.kind; summ = s.summ; own = s.own; owner = s.owner; others = s.others; victim = s.victim; acks = s.acks; wb = s.wb; mem = s.mem; dreq = s.dreq; down = s.down; f0 = s.f0; f1 = s.f1; f2 = s.f2; f3 = v }) s.f3 base.f3)
+    let s1 = record base { stage = s.stage } in
+    let s2 = record s1 { head = s.head } in
+    let s3 = record s2 { gp = s.gp } in
+    let s4 = record s3 { kind = s.kind } in
+    let s5 = record s4 { summ = s.summ } in
+    let s6 = record s5 { own = s.own } in
+    let s7 = record s6 { owner = s.owner } in
+    let s8 = record s7 { others = s.others } in
+    let s9 = record s8 { victim = s.victim } in
+    let s10 = record s9 { acks = s.acks } in
+    let s11 = record s10 { wb = s.wb } in
+    let s12 = record s11 { mem = s.mem } in
+    let s13 = record s12 { dreq = s.dreq } in
+    let s14 = record s13 { down = s.down } in
+    let s15 = record s14 { f0 = s.f0 } in
+    let s16 = record s15 { f1 = s.f1 } in
+    let s17 = record s16 { f2 = s.f2 } in
+    ap (applied (drop 1 (names_of names.Field)) base s) (step (λ v. record base { stage = v }) s.stage base.stage)
+    ∙ ap (applied (drop 2 (names_of names.Field)) base s) (step (λ v. record s1 { head = v }) s.head base.head)
+    ∙ ap (applied (drop 3 (names_of names.Field)) base s) (step (λ v. record s2 { gp = v }) s.gp base.gp)
+    ∙ ap (applied (drop 4 (names_of names.Field)) base s) (step (λ v. record s3 { kind = v }) s.kind base.kind)
+    ∙ ap (applied (drop 5 (names_of names.Field)) base s) (step (λ v. record s4 { summ = v }) s.summ base.summ)
+    ∙ ap (applied (drop 6 (names_of names.Field)) base s) (step (λ v. record s5 { own = v }) s.own base.own)
+    ∙ ap (applied (drop 7 (names_of names.Field)) base s) (step (λ v. record s6 { owner = v }) s.owner base.owner)
+    ∙ ap (applied (drop 8 (names_of names.Field)) base s) (step (λ v. record s7 { others = v }) s.others base.others)
+    ∙ ap (applied (drop 9 (names_of names.Field)) base s) (step (λ v. record s8 { victim = v }) s.victim base.victim)
+    ∙ ap (applied (drop 10 (names_of names.Field)) base s) (step (λ v. record s9 { acks = v }) s.acks base.acks)
+    ∙ ap (applied (drop 11 (names_of names.Field)) base s) (step (λ v. record s10 { wb = v }) s.wb base.wb)
+    ∙ ap (applied (drop 12 (names_of names.Field)) base s) (step (λ v. record s11 { mem = v }) s.mem base.mem)
+    ∙ ap (applied (drop 13 (names_of names.Field)) base s) (step (λ v. record s12 { dreq = v }) s.dreq base.dreq)
+    ∙ ap (applied (drop 14 (names_of names.Field)) base s) (step (λ v. record s13 { down = v }) s.down base.down)
+    ∙ ap (applied (drop 15 (names_of names.Field)) base s) (step (λ v. record s14 { f0 = v }) s.f0 base.f0)
+    ∙ ap (applied (drop 16 (names_of names.Field)) base s) (step (λ v. record s15 { f1 = v }) s.f1 base.f1)
+    ∙ ap (applied (drop 17 (names_of names.Field)) base s) (step (λ v. record s16 { f2 = v }) s.f2 base.f2)
+    ∙ ap (applied (drop 18 (names_of names.Field)) base s) (step (λ v. record s17 { f3 = v }) s.f3 base.f3)
 
 -- ---- the line
 
@@ -222,9 +284,11 @@ all_applied base s =
 abbrev base_of_sets : Sets → Sets
 base_of_sets s = cond (is_held s) held idle
 
+-- the name of the base
 abbrev base_name : Sets → List ℕ
 base_name s = cond (is_held s) (codes "held") (codes "idle")
 
+-- the words of a know line
 abbrev pub know_words : Sets → List (List ℕ)
 know_words s = codes "know" ∷ base_name s ∷ entry_words (names_of names.Field) (base_of_sets s) s
 
@@ -232,23 +296,31 @@ know_words s = codes "know" ∷ base_name s ∷ entry_words (names_of names.Fiel
 abbrev pub know_bytes : Sets → List ℕ
 know_bytes s = 32 ∷ spaced (know_words s)
 
+-- the fields of what a mask says give entries
 entries_of : (s : Sets) → IsKnow s → AreEntries (names_of names.Field) s
 entries_of s h = fields_again s (all_sets s (in_range s h))
 
+-- the name of a base is a word
 base_is_word : (b : Bool) → is_word (cond b (codes "held") (codes "idle")) ≡ true
 base_is_word true = refl
 base_is_word false = refl
 
+-- the words of a know line are words
 pub know_is_words : (s : Sets) → IsKnow s → list_all is_word (know_words s) ≡ true
 know_is_words s h =
     let ws = entry_words (names_of names.Field) (base_of_sets s) s in
-    both (is_word (base_name s)) (list_all is_word ws) (base_is_word (is_held s)) (entries_are_words (names_of names.Field) (base_of_sets s) s (entries_of s h))
+    both (is_word (base_name s)) (list_all is_word ws) (base_is_word (is_held s))
+    (entries_are_words (names_of names.Field) (base_of_sets s) s (entries_of s h))
 
-based : (name : List ℕ) (base s : Sets) → based_text (names_of names.Field) name base s ≡ (32 ∷ spaced (codes "know" ∷ name ∷ entry_words (names_of names.Field) base s)) ++ 10 ∷ []
+-- the text of a know line with this base
+based : (name : List ℕ) (base s : Sets) → based_text (names_of names.Field) name base s
+    ≡ (32 ∷ spaced (codes "know" ∷ name ∷ entry_words (names_of names.Field) base s)) ++ 10 ∷ []
 unfolding based_text
 based name base s = ap (λ l. ((codes "  know " ++ name) ++ l) ++ 10 ∷ []) (entries_text (names_of names.Field) base s)
 
-text_by : (b : Bool) (s : Sets) → cond b (based_text (names_of names.Field) (codes "held") held s) (based_text (names_of names.Field) (codes "idle") idle s)
+-- the text of a know line, by the base
+text_by : (b : Bool) (s : Sets)
+    → cond b (based_text (names_of names.Field) (codes "held") held s) (based_text (names_of names.Field) (codes "idle") idle s)
     ≡ (32 ∷ spaced (codes "know" ∷ cond b (codes "held") (codes "idle") ∷ entry_words (names_of names.Field) (cond b held idle) s)) ++ 10 ∷ []
 text_by true s = based (codes "held") held s
 text_by false s = based (codes "idle") idle s
@@ -257,9 +329,11 @@ text_by false s = based (codes "idle") idle s
 pub know_bytes_are : (s : Sets) → know_text s ≡ know_bytes s ++ 10 ∷ []
 know_bytes_are s = text_by (is_held s) s
 
+-- a know line, by its base and what its entries are read as
 line_by : (b : Bool) (labels : List Naming) (full : Bool) (line end : ℕ) (ws : List (List ℕ)) (s : Sets)
     → ((c : ℕ) → entries_at (cond b held idle) 0 None (marks c ws) ≡ Ok s)
-    → line_at labels full false line (row (marks 3 (codes "know" ∷ cond b (codes "held") (codes "idle") ∷ ws)) end) (marks 3 (codes "know" ∷ cond b (codes "held") (codes "idle") ∷ ws)) ≡ Ok (parts (Some s) None)
+    → line_at labels full false line (row (marks 3 (codes "know" ∷ cond b (codes "held") (codes "idle") ∷ ws)) end)
+    (marks 3 (codes "know" ∷ cond b (codes "held") (codes "idle") ∷ ws)) ≡ Ok (parts (Some s) None)
 unfolding line_at labelled_at content_at know_at word_of
 line_by true labels full line end ws s e = ap (λ (r : Result Sets At). r >>= λ sets. Ok (parts (Some sets) None)) (e 13)
 line_by false labels full line end ws s e = ap (λ (r : Result Sets At). r >>= λ sets. Ok (parts (Some sets) None)) (e 13)
@@ -272,4 +346,5 @@ know_read s labels full line h =
     let end = length (know_bytes s) + 1 in
     ap (λ (r : LineWords). line_at labels full false line r r.words) (row_words (know_words s) (know_is_words s h))
     ∙ line_by (is_held s) labels full line end ws s
-    (λ c. entries_read (names_of names.Field) (base_of_sets s) s (base_of_sets s) 0 0 c (omega arith) refl (entries_of s h) ∙ ap Ok (all_applied (base_of_sets s) s))
+    (λ c. entries_read (names_of names.Field) (base_of_sets s) s (base_of_sets s) 0 0 c (omega arith) refl (entries_of s h)
+    ∙ ap Ok (all_applied (base_of_sets s) s))

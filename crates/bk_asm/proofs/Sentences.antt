@@ -30,6 +30,7 @@ abbrev pub spaced : List (List ℕ) → List ℕ
 spaced [] = []
 spaced (w ∷ ws) = 32 ∷ (w ++ spaced ws)
 
+-- a word in a column
 abbrev pub marked : ℕ → List ℕ → Marked
 marked column word = record { column = column; word = word }
 
@@ -43,26 +44,31 @@ abbrev pub past : ℕ → List (List ℕ) → ℕ
 past c [] = c
 past c (w ∷ ws) = past (c + (length w + 1)) ws
 
+-- two tests that pass
 pub both : (a b : Bool) → a ≡ true → b ≡ true → a && b ≡ true
 both true b e f = f
 both false b e f = absurd cc
 
+-- the negation of a test that passes
 fails : (b : Bool) → not b ≡ true → b ≡ false
 fails true e = absurd cc
 fails false e = refl
 
+-- what passes one test passes one that follows from it
 implied : (p q : ℕ → Bool) → ((b : ℕ) → p b ≡ true → q b ≡ true) → (bytes : List ℕ) → list_all p bytes ≡ true → list_all q bytes ≡ true
 implied p q h [] e = refl
 implied p q h (b ∷ bytes) e =
     let t = and_parts (p b) (list_all p bytes) e in
     both (q b) (list_all q bytes) (h b t.0) (implied p q h bytes t.1)
 
+-- a byte of a word may stand in a line; it is no blank
 plain_is_quiet : (b : ℕ) → is_plain b ≡ true → is_quiet b ≡ true
 plain_is_quiet b e = ap (λ t. t || b == 32) e
 
 plain_no_blank : (b : ℕ) → is_plain b ≡ true → is_blank b ≡ false
 plain_no_blank b e = grind (arith, nat_tests)
 
+-- a byte of a line is no line feed, no mark of a comment and no carriage return
 quiet_no_feed : (b : ℕ) → is_quiet b ≡ true → not (b == 10) ≡ true
 quiet_no_feed b e = grind (arith, nat_tests)
 
@@ -72,6 +78,7 @@ quiet_no_mark b e = grind (arith, nat_tests)
 quiet_no_return : (b : ℕ) → is_quiet b ≡ true → (b == 13) ≡ false
 quiet_no_return b e = grind (arith, nat_tests)
 
+-- a test of each byte of two texts, one behind the other
 all_append : (p : ℕ → Bool) (xs ys : List ℕ) → list_all p xs ≡ true → list_all p ys ≡ true → list_all p (xs ++ ys) ≡ true
 all_append p [] ys a b = b
 all_append p (x ∷ xs) ys a b =
@@ -81,7 +88,8 @@ all_append p (x ∷ xs) ys a b =
 -- ---- the words of a line
 
 -- a word, and what follows it
-word_first : (c : ℕ) (w rest : List ℕ) → is_nonempty w ≡ true → list_all is_plain w ≡ true → ends_word rest ≡ true → words_from c (w ++ rest) ≡ marked c w ∷ words_from (c + length w) rest
+word_first : (c : ℕ) (w rest : List ℕ) → is_nonempty w ≡ true → list_all is_plain w ≡ true → ends_word rest ≡ true
+    → words_from c (w ++ rest) ≡ marked c w ∷ words_from (c + length w) rest
 word_first c [] rest some plain ends = absurd cc
 word_first c (b ∷ []) rest some plain ends =
     words_from-byte c b rest (plain_no_blank b (and_parts (is_plain b) true plain).0) ∙ ap (λ t. onto_words c b t (words_from (c + 1) rest)) ends
@@ -93,6 +101,7 @@ word_first c (b ∷ d ∷ w) rest some plain ends =
     ∙ ap (onto_words c b false) (word_first (c + 1) (d ∷ w) rest refl t.1 ends)
     ∙ ap (λ k. marked c (b ∷ d ∷ w) ∷ words_from k rest) column
 
+-- a word ends where spaced words follow
 spaced_ends : (ws : List (List ℕ)) → ends_word (spaced ws) ≡ true
 spaced_ends [] = refl
 spaced_ends (w ∷ ws) = refl
@@ -113,6 +122,7 @@ word_alone c w e =
     let s = and_parts (is_nonempty w) (list_all is_plain w) e in
     ap (words_from c) (sym (append-nil w)) ∙ word_first c w [] s.0 s.1 refl ∙ ap (λ l. marked c w ∷ l) (words_from-nothing (c + length w))
 
+-- the text, the columns and the bytes of words, one list behind the other
 pub spaced_append : (xs ys : List (List ℕ)) → spaced (xs ++ ys) ≡ spaced xs ++ spaced ys
 spaced_append [] ys = refl
 spaced_append (x ∷ xs) ys = ap (λ l. 32 ∷ (x ++ l)) (spaced_append xs ys) ∙ ap (λ l. 32 ∷ l) (sym (append_assoc x (spaced xs) (spaced ys)))
@@ -127,6 +137,7 @@ words_append (x ∷ xs) ys a b =
     let t = and_parts (is_word x) (list_all is_word xs) a in
     both (is_word x) (list_all is_word (xs ++ ys)) t.0 (words_append xs ys t.1 b)
 
+-- the bytes of words, and of words with blanks, may stand in a line
 pub word_quiet : (w : List ℕ) → is_word w ≡ true → list_all is_quiet w ≡ true
 word_quiet w e = implied is_plain is_quiet plain_is_quiet w (and_parts (is_nonempty w) (list_all is_plain w) e).1
 
@@ -138,15 +149,18 @@ spaced_quiet (w ∷ ws) e =
 
 -- ---- lines
 
+-- no byte passes, so the first that does is behind the last
 position_none : (p : ℕ → Bool) (bytes : List ℕ) → list_all (λ b. not (p b)) bytes ≡ true → position_or_len p bytes ≡ length bytes
 position_none p [] e = refl
 position_none p (b ∷ bytes) e =
     let t = and_parts (not (p b)) (list_all (λ b. not (p b)) bytes) e in
     ap (λ t. cond (not t) (1 + position_or_len p bytes) 0) (fails (p b) t.0) ∙ omega (arith, position_none p bytes t.1)
 
+-- what is left of a line without a comment
 abbrev pub row : List Marked → ℕ → LineWords
 row words end = record { words = words; bad = None; end = end }
 
+-- a line by its parts before and behind the mark of a comment
 row_by : (line before comment : List ℕ) → before_comment 59 line ≡ before → comment_of 59 line ≡ comment
     → row_of 59 line ≡ record { words = words_from 1 before; bad = bad_from (length before + 1) comment; end = length line + 1 }
 row_by line before comment b c = ap (λ x. record { words = words_from 1 x; bad = bad_from (length x + 1) (comment_of 59 line); end = length line + 1 }) b
@@ -163,15 +177,19 @@ row_is line e =
 -- a line of words that begins with two blanks
 pub row_words : (ws : List (List ℕ)) → list_all is_word ws ≡ true → row_at (32 ∷ spaced ws) ≡ row (marks 3 ws) (length (32 ∷ spaced ws) + 1)
 row_words ws e =
-    row_is (32 ∷ spaced ws) (spaced_quiet ws e) ∙ ap (λ l. row l (length (32 ∷ spaced ws) + 1)) (words_from-blank 1 32 (spaced ws) refl ∙ spaced_words 2 ws e)
+    row_is (32 ∷ spaced ws) (spaced_quiet ws e)
+    ∙ ap (λ l. row l (length (32 ∷ spaced ws) + 1)) (words_from-blank 1 32 (spaced ws) refl ∙ spaced_words 2 ws e)
 
-split_at : (p : ℕ → Bool) (sep : ℕ) (rest : List ℕ) → p sep ≡ true → (bytes : List ℕ) → list_all (λ b. not (p b)) bytes ≡ true → slice_split p (bytes ++ sep ∷ rest) ≡ bytes ∷ slice_split p rest
+-- a separator behind bytes of which none is one
+split_at : (p : ℕ → Bool) (sep : ℕ) (rest : List ℕ) → p sep ≡ true → (bytes : List ℕ) → list_all (λ b. not (p b)) bytes ≡ true
+    → slice_split p (bytes ++ sep ∷ rest) ≡ bytes ∷ slice_split p rest
 split_at p sep rest is [] e = ap (λ t. cond t ([] ∷ slice_split p rest) (onto_first sep (slice_split p rest))) is
 split_at p sep rest is (b ∷ bytes) e =
     let t = and_parts (not (p b)) (list_all (λ b. not (p b)) bytes) e in
     ap (λ t. cond t ([] ∷ slice_split p (bytes ++ sep ∷ rest)) (onto_first b (slice_split p (bytes ++ sep ∷ rest)))) (fails (p b) t.0)
     ∙ ap (onto_first b) (split_at p sep rest is bytes t.1)
 
+-- no byte of a line is a carriage return
 no_return : (bytes : List ℕ) (i : ℕ) → list_all is_quiet bytes ≡ true → (get_or bytes i 0 == 13) ≡ false
 no_return [] i e = refl
 no_return (b ∷ bytes) zero e = quiet_no_return b (and_parts (is_quiet b) (list_all is_quiet bytes) e).0
