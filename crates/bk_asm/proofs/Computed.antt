@@ -113,10 +113,11 @@ pub classes_again : (n : ℕ) → 0 < n → n < 8
     → (is_word (set_text class_names true (codes ",") n) ≡ true) × (joined class_names 44 (set_text class_names true (codes ",") n) ≡ Some n)
 classes_again n some few = set_parts 44 class_names n some (at_below (is_set_again 44 class_names) 8 n refl few)
 
--- each set of values of each field that `bk` tests is a word, and is read again
+-- computed for each of those fields and sets
 all_tested : all_values (λ k. each_below (is_set_again 44 (value_names k)) (limit_of k)) (names_of names.Tested) ≡ true
 all_tested = refl
 
+-- each set of values of a field that `bk` tests is a word, and is read again
 pub values_again : (k n : ℕ) → is_value names.Tested k ≡ true → 0 < n → n < limit_of k
     → (is_word (set_text (value_names k) true (codes ",") n) ≡ true) × (joined (value_names k) 44 (set_text (value_names k) true (codes ",") n) ≡ Some n)
 values_again k n field some few =

@@ -142,6 +142,7 @@ HasFirst o a = (b : Allowed) × (c : Allowed) × (imm : Allowed) × (row_of (opc
 abbrev slots_row : Operation → ℕ → Row
 slots_row o a = row (allowed_slot (shape o).a 0) (allowed_slot (shape o).b a) (allowed_slot (shape o).c a) (allowed_last (shape o).last)
 
+-- its first field is then the first slot
 by_slots : (o : Operation) (a : ℕ) → row_of (opcode o) a ≡ Some (slots_row o a) → HasFirst o a
 by_slots o a e = (allowed_slot (shape o).b a, allowed_slot (shape o).c a, allowed_last (shape o).last, e)
 

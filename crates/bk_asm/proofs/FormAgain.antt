@@ -138,24 +138,28 @@ statement_of line column o p =
 
 -- ---- numbers
 
--- the digits of a numeral are digits, bytes of words, and a word
+-- the digits of a numeral are digits
 all_digits : (ds : List ℕ) → AllDigits 10 ds → list_all (is_digit 10) ds ≡ true
 all_digits [] h = refl
 all_digits (d ∷ ds) h = both (is_digit 10 d) (list_all (is_digit 10) ds) (grind (arith, nat_tests, h.0)) (all_digits ds h.1)
 
+-- a digit is a byte of a word
 digit_is_plain : (b : ℕ) → is_digit 10 b ≡ true → is_plain b ≡ true
 digit_is_plain b e = grind (arith, nat_tests)
 
+-- digits are bytes of a word
 digits_plain : (ds : List ℕ) → list_all (is_digit 10) ds ≡ true → list_all is_plain ds ≡ true
 digits_plain [] e = refl
 digits_plain (d ∷ ds) e =
     let t = and_parts (is_digit 10 d) (list_all (is_digit 10) ds) e in
     both (is_plain d) (list_all is_plain ds) (digit_is_plain d t.0) (digits_plain ds t.1)
 
+-- bytes that are some
 nonempty : (ds : List ℕ) → 0 < length ds → is_nonempty ds ≡ true
 nonempty [] h = absurd (omega arith)
 nonempty (d ∷ ds) h = refl
 
+-- a number in decimal digits is a word
 decimal_word : (n : ℕ) → n < 2 ^ 64 → is_word (decimal n) ≡ true
 decimal_word n small =
     let d = decimal_is_IsNumeral n small in
@@ -417,6 +421,7 @@ record AreOperands (line c end : ℕ) (o : Operation) (p : Fields) : Type 0 wher
 texts_append : (a b c d : List (List ℕ)) → spaced a ++ spaced b ++ spaced c ++ spaced d ≡ spaced (a ++ (b ++ (c ++ d)))
 texts_append a b c d = simp (spaced_append, append_assoc)
 
+-- the same by what each is written as
 four_texts : (a b c d : List (List ℕ)) (x y z w : List ℕ) → x ≡ spaced a → y ≡ spaced b → z ≡ spaced c → w ≡ spaced d
     → x ++ y ++ z ++ w ≡ spaced (a ++ (b ++ (c ++ d)))
 four_texts a b c d x y z w ea eb ec ed = rw (ea, eb, ec, ed) (texts_append a b c d)

@@ -39,6 +39,7 @@ or_parts false b e = (refl, e)
 some_of : (n : ℕ) → (n == 0) ≡ false → 0 < n
 some_of n e = grind (arith, nat_tests, e)
 
+-- no field of a know line is empty
 record NoneEmpty (s : Sets) : Type 0 where
   stage : 0 < s.stage
   head : 0 < s.head
@@ -191,6 +192,7 @@ seen_more seen least k lt le =
     let high : 2 ^ least ≤ 2 ^ (k + 1) = pow-le-pow_right {n = 2} (omega arith) (omega arith) in
     omega (arith, high)
 
+-- with one more field they are below the one behind that
 seen_one : (seen least k : ℕ) → seen < 2 ^ least → least ≤ k → bit_or seen (2 ^ k) < 2 ^ (k + 1)
 seen_one seen least k lt le = or_lt (k + 1) seen (2 ^ k) (seen_more seen least k lt le) (pow-lt (omega arith))
 

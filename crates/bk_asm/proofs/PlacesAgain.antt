@@ -184,10 +184,11 @@ record Behind (count p : ℕ) (back : List Line) : Type 0 where
   up : are_lines count (p + 1) more ≡ true
   later : (q : ℕ) → p + 1 ≤ q → known back q ≡ known more q
 
--- the first know line is that of the place, or stands behind it
+-- the first know line is that of the place
 line_here : (k : Line) (ks : List Line) (p : ℕ) (o : Option Sets) → k.0 ≡ p → o ≡ Some k.1 → k ∷ ks ≡ know_line p o ++ ks
 line_here k ks p o is e = rw e (ap (λ q. (q, k.1) ∷ ks) is)
 
+-- the place has no know line
 line_past : (ls : List Line) (p : ℕ) (o : Option Sets) → o ≡ None → ls ≡ know_line p o ++ ls
 line_past ls p o e = rw e refl
 
@@ -223,6 +224,7 @@ mask_by : (b : Bool) (k : Line) (s : Sets) (o : Option Sets) → HasMask k → (
 mask_by true k s o h more e = let same : k.1 ≡ s = cc in subst (λ (q : Sets). IsKnow q) same h.know
 mask_by false k s o h more e = more e
 
+-- what the know line of a place says is what a mask says
 known_mask : (ks : List Line) (p : ℕ) (s : Sets) → AllByRecursion HasMask ks → known ks p ≡ Some s → IsKnow s
 known_mask [] p s h e = absurd cc
 known_mask (k ∷ ks) p s h e = mask_by (k.0 == p) k s (known ks p) h.0 (known_mask ks p s h.1) e
@@ -243,10 +245,11 @@ ranges_more fs f i lt is h one =
 abbrev pub AreMasks : List Line → ℕ → Type 0
 AreMasks ks p = (q : ℕ) → q < p → IfSome (known ks q) (λ s. IsKnow s)
 
--- the know lines of no place, and of one more
+-- no place comes first
 pub no_masks : (ks : List Line) → AreMasks ks 0
 no_masks ks q lt = absurd (omega (arith, lt))
 
+-- the know lines of one more place
 pub one_mask : (ks : List Line) (p : ℕ) → AreMasks ks p → IfSome (known ks p) (λ s. IsKnow s) → AreMasks ks (p + 1)
 one_mask ks p h one q lt = elim (tested (q == p)) [
   | inl is ↦ subst (λ (k : ℕ). IfSome (known ks k) (λ s. IsKnow s)) (sym (eqb-true q p is)) one
@@ -257,6 +260,7 @@ one_mask ks p h one q lt = elim (tested (q == p)) [
 mask_at : (o : Option Sets) (s : Sets) → o ≡ Some s → IfSome o (λ s. IsKnow s) → IsKnow s
 mask_at o s e h = (rw e at h)
 
+-- the same by what a place has
 mask_if : (o p : Option Sets) → o ≡ p → IfSome o (λ s. IsKnow s) → IfSome p (λ s. IsKnow s)
 mask_if o p e h = (rw e at h)
 
@@ -427,6 +431,7 @@ read_from x image (f ∷ left) p n front back d range h =
 nothing_found : (forms : List Form) (q : ℕ) → None ≡ found forms 0 q
 nothing_found forms q = grind (arith, nat_tests)
 
+-- nothing was read, and all is left
 nothing_stands : (x : Parts) → IsImage x → Stands x 0 [] x.instrs x.knows nothing_read
 nothing_stands x h = record {
   forms = refl;

@@ -61,20 +61,23 @@ implied p q h (b ∷ bytes) e =
     let t = and_parts (p b) (list_all p bytes) e in
     both (q b) (list_all q bytes) (h b t.0) (implied p q h bytes t.1)
 
--- a byte of a word may stand in a line; it is no blank
+-- a byte of a word may stand in a line
 plain_is_quiet : (b : ℕ) → is_plain b ≡ true → is_quiet b ≡ true
 plain_is_quiet b e = ap (λ t. t || b == 32) e
 
+-- a byte of a word is no blank
 plain_no_blank : (b : ℕ) → is_plain b ≡ true → is_blank b ≡ false
 plain_no_blank b e = grind (arith, nat_tests)
 
--- a byte of a line is no line feed, no mark of a comment and no carriage return
+-- a byte of a line is no line feed
 quiet_no_feed : (b : ℕ) → is_quiet b ≡ true → not (b == 10) ≡ true
 quiet_no_feed b e = grind (arith, nat_tests)
 
+-- a byte of a line begins no comment
 quiet_no_mark : (b : ℕ) → is_quiet b ≡ true → not (b == 59) ≡ true
 quiet_no_mark b e = grind (arith, nat_tests)
 
+-- a byte of a line is no carriage return
 quiet_no_return : (b : ℕ) → is_quiet b ≡ true → (b == 13) ≡ false
 quiet_no_return b e = grind (arith, nat_tests)
 
@@ -122,25 +125,28 @@ word_alone c w e =
     let s = and_parts (is_nonempty w) (list_all is_plain w) e in
     ap (words_from c) (sym (append-nil w)) ∙ word_first c w [] s.0 s.1 refl ∙ ap (λ l. marked c w ∷ l) (words_from-nothing (c + length w))
 
--- the text, the columns and the bytes of words, one list behind the other
+-- the text of two lists of words
 pub spaced_append : (xs ys : List (List ℕ)) → spaced (xs ++ ys) ≡ spaced xs ++ spaced ys
 spaced_append [] ys = refl
 spaced_append (x ∷ xs) ys = ap (λ l. 32 ∷ (x ++ l)) (spaced_append xs ys) ∙ ap (λ l. 32 ∷ l) (sym (append_assoc x (spaced xs) (spaced ys)))
 
+-- two lists of words, with their columns
 pub marks_append : (c : ℕ) (xs ys : List (List ℕ)) → marks c (xs ++ ys) ≡ marks c xs ++ marks (past c xs) ys
 marks_append c [] ys = refl
 marks_append c (x ∷ xs) ys = ap (λ l. marked c x ∷ l) (marks_append (c + (length x + 1)) xs ys)
 
+-- two lists of words are words
 pub words_append : (xs ys : List (List ℕ)) → list_all is_word xs ≡ true → list_all is_word ys ≡ true → list_all is_word (xs ++ ys) ≡ true
 words_append [] ys a b = b
 words_append (x ∷ xs) ys a b =
     let t = and_parts (is_word x) (list_all is_word xs) a in
     both (is_word x) (list_all is_word (xs ++ ys)) t.0 (words_append xs ys t.1 b)
 
--- the bytes of words, and of words with blanks, may stand in a line
+-- the bytes of a word may stand in a line
 pub word_quiet : (w : List ℕ) → is_word w ≡ true → list_all is_quiet w ≡ true
 word_quiet w e = implied is_plain is_quiet plain_is_quiet w (and_parts (is_nonempty w) (list_all is_plain w) e).1
 
+-- the bytes of words with blanks may stand in a line
 pub spaced_quiet : (ws : List (List ℕ)) → list_all is_word ws ≡ true → list_all is_quiet (spaced ws) ≡ true
 spaced_quiet [] e = refl
 spaced_quiet (w ∷ ws) e =
