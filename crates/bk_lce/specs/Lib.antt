@@ -1,3 +1,5 @@
+pub mod Asked
+pub mod Caches
 pub mod CacheState
 pub mod CacheTable
 pub mod Kept
