@@ -2,6 +2,7 @@
 #![tactic(auto)]
 
 mod arrays;
+mod issue;
 mod line;
 mod places;
 mod policy;

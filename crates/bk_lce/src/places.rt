@@ -1,4 +1,4 @@
-ghost use Rattle.std.specs.Prelude.{◌≡◌, ◌<◌, is_some, not, ◌==◌, filter, true};
+ghost use Rattle.std.specs.Prelude.{◌≡◌, ◌<◌, IfSome, is_some, not, ◌==◌, filter, true};
 ghost use Rattle.arrayvec.specs.ArrayVec.{array_vec_len};
 ghost use Rattle.bk_base.specs.Places.{group_of, tag_at};
 ghost use Rattle.bk_lce.specs.Kept.{has};
@@ -38,6 +38,7 @@ fn to_front(ways: &mut ArrayVec<u8, 8>, way: u8)
 
 impl CacheArrays {
     /// The line at a way of a set.
+    #[tactic(auto, unfolding(crate::specs::Caches::state_of))]
     pub fn line(&self, set: u8, way: u8) -> Line
         requires set { set < self.now.config.sets }
         requires way { way < self.now.config.ways }
@@ -55,6 +56,7 @@ impl CacheArrays {
     }
 
     /// Whether the cache has an operation in progress.
+    #[tactic(auto, unfolding(crate::specs::Caches::state_of))]
     pub fn busy(&self) -> bool
         ensures { result ≡ is_some (state_of self.now).busy }
     {
@@ -62,7 +64,7 @@ impl CacheArrays {
     }
 
     /// Writes one line.
-    #[tactic(auto, using(crate::proofs::Written::lines_of_set))]
+    #[tactic(auto, using(crate::proofs::Written::lines_of_set), unfolding(crate::specs::Caches::state_of))]
     pub(crate) fn write_line(&mut self, set: u8, way: u8, line: Line)
         requires set { set < self.old.config.sets }
         requires way { way < self.old.config.ways }
@@ -74,7 +76,6 @@ impl CacheArrays {
     }
 
     /// Makes a way the most recently used of its set.
-    #[tactic(auto, using(crate::proofs::Written::recency_of_set))]
     pub(crate) fn use_way(&mut self, set: u8, way: u8)
         requires set { set < self.old.config.sets }
         requires way { way < self.old.config.ways }
@@ -87,7 +88,8 @@ impl CacheArrays {
 
     /// The least way that holds the block of an address.
     pub(crate) fn found(&self, addr: Addr) -> Option<u8>
-        ensures { result ≡ found self.now.config (state_of self.now) addr }
+        ensures value { result ≡ found self.now.config (state_of self.now) addr }
+        ensures within { IfSome result (λ w. w < self.now.config.ways) }
     {
         let set = group_of(self.config, addr);
         let tag = tag_at(self.config, addr);

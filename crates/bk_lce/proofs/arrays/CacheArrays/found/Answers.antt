@@ -8,8 +8,9 @@ use Rattle.bk_lce.specs.Caches.{state_of}
 use Rattle.bk_lce.specs.Kept.{lines_of}
 use Rattle.bk_lce.proofs.arrays.CacheArrays.found.Goals as goal
 
-pub returns-then-holds : goal.returns-then-holds
-returns-then-holds c =
+pub returns-then-holds-clause-value : goal.returns-then-holds-clause-value
+unfolding state_of
+returns-then-holds-clause-value c =
     let test : ℕ → Bool = λ w. holds (line_at c.args.self.now.config (state_of c.args.self.now) c.args.addr w) (tag_at c.args.self.now.config c.args.addr) in
     let same : test c.loop-way.way ≡ holds c.line-line.result c.tag_at-tag.result =
         ap (λ (s : ℕ). holds (lines_of c.args.self.now.lines.items s c.loop-way.way) (tag_at c.args.self.now.config c.args.addr)) (sym c.group_of-set.ensures.value)

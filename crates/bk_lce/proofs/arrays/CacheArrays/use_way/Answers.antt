@@ -12,6 +12,7 @@ to_front-requires c =
     subst (λ (xs : List ℕ). has xs c.args.way ≡ true) (sym is) (c.args.self.now.complete c.args.set c.args.way c.requires.way)
 
 pub returns-clause-state : goal.returns-clause-state
+unfolding state_of
 returns-clause-state c =
     let is = recency_read c.args.self.now.config.ways c.args.self.now.recency.items c.args.set c.index_mut.result.now (omega arith) c.index_mut.ensures.value in
     let moved : c.to_front.new.ways.items ≡ to_front c.args.way (recency_of c.args.self.now.config.ways c.args.self.now.recency.items c.args.set) =
