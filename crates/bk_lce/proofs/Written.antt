@@ -59,3 +59,11 @@ pub recency_read : (ways : ℕ) (xs : List (ArrayVec ℕ)) (s : ℕ) (read : Arr
 unfolding recency_of
 recency_read ways xs s read within e =
     ap (λ (v : ArrayVec ℕ). v.items) (e ∙ get_or_default xs s read (record { items = ways_in_order ways }) within)
+
+-- a line that was read at its place
+pub lines_read : (xs : List Line) (s w : ℕ) (read : Line) → w < 8 → place_of s w < length xs → read ≡ slice_index_or xs (place_of s w) read
+    → lines_of xs s w ≡ read
+unfolding lines_of
+lines_read xs s w read l within e =
+    let is = get_or_default xs (place_of s w) read empty_line within in
+    grind (arith, nat_tests, is)

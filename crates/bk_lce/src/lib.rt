@@ -2,6 +2,7 @@
 #![tactic(auto)]
 
 mod arrays;
+mod commands;
 mod issue;
 mod line;
 mod places;

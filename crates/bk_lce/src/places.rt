@@ -6,7 +6,7 @@ ghost use Rattle.bk_lce.specs.CacheState.{holds, line_at, found, with_line, used
 ghost use Rattle.bk_lce.specs.Caches.{state_of};
 
 use crate::arrays::CacheArrays;
-use crate::line::Line;
+use crate::line::{InProgress, Line};
 use arrayvec::ArrayVec;
 use bk_base::{Addr, group_of, tag_at};
 
@@ -55,6 +55,15 @@ impl CacheArrays {
         self.line(group_of(self.config, addr), way)
     }
 
+    /// The operation in progress.
+    #[tactic(auto, unfolding(crate::specs::Caches::state_of))]
+    pub(crate) fn in_progress(&self) -> Option<InProgress>
+        ensures value { result ≡ (state_of self.now).busy }
+        ensures within { IfSome result (λ busy. busy.way < self.now.config.ways) }
+    {
+        self.busy
+    }
+
     /// Whether the cache has an operation in progress.
     #[tactic(auto, unfolding(crate::specs::Caches::state_of))]
     pub fn busy(&self) -> bool
@@ -67,7 +76,7 @@ impl CacheArrays {
     #[tactic(auto, using(crate::proofs::Written::lines_of_set), unfolding(crate::specs::Caches::state_of))]
     pub(crate) fn write_line(&mut self, set: u8, way: u8, line: Line)
         requires set { set < self.old.config.sets }
-        requires way { way < self.old.config.ways }
+        requires way { way < 8 }
         ensures state { state_of self.new ≡ with_line (state_of self.old) set way line }
         ensures config { self.new.config ≡ self.old.config }
         ensures number { self.new.number ≡ self.old.number }
