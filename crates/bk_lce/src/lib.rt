@@ -3,6 +3,7 @@
 
 mod arrays;
 mod commands;
+mod grants;
 mod issue;
 mod line;
 mod places;
