@@ -1,4 +1,5 @@
 pub mod Dropped
 pub mod Proper
 pub mod Recent
+pub mod Unused
 pub mod Written

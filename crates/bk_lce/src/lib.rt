@@ -9,8 +9,10 @@ mod grants;
 mod issue;
 mod line;
 mod looks;
+mod opening;
 mod places;
 mod policy;
+mod views;
 
 pub use arrays::CacheArrays;
 pub use line::{Busy, Foreign, InProgress, Line, Step, WayView};
