@@ -1,3 +1,4 @@
+pub mod Ages
 pub mod Dropped
 pub mod Proper
 pub mod Recent

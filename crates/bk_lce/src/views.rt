@@ -1,4 +1,5 @@
 ghost use Rattle.std.specs.Prelude.{◌≡◌, ◌≤◌, ◌<◌, ◌==◌, length, position, IfSome};
+ghost use Rattle.arrayvec.specs.ArrayVec.{array_vec_len};
 ghost use Rattle.bk_lce.specs.Policies.{age_in, view_of, views, AreViews};
 ghost use Rattle.bk_lce.specs.Caches.{state_of};
 
@@ -46,6 +47,7 @@ impl CacheArrays {
         requires { set < self.now.config.sets }
         ensures items { result.items ≡ views self.now.config (state_of self.now) set }
         ensures views { AreViews result.items }
+        ensures count { array_vec_len result ≡ self.now.config.ways }
     {
         let mut views = ArrayVec::new();
         for way in 0..self.config.ways {
