@@ -42,7 +42,7 @@ impl<F: Fn(&[WayView]) -> u8 + Copy + Send> Cache<F> {
         ensures state { IfOk result (λ cache. state_of cache.arrays ≡ opening config) }
         ensures config { IfOk result (λ cache. cache.arrays.config ≡ config) }
         ensures number { IfOk result (λ cache. cache.arrays.number ≡ number) }
-        ensures victim { IfOk result (λ cache. cache.victim.pick ≡ victim.pick) }
+        ensures victim { IfOk result (λ cache. cache.victim ≡ victim) }
     {
         let arrays = CacheArrays::make(alloc, config, number)?;
         Ok(Cache { arrays, victim })

@@ -8,6 +8,7 @@ mod comes;
 mod commands;
 mod grants;
 mod issue;
+mod meaning;
 mod line;
 mod looks;
 mod opening;
@@ -17,5 +18,6 @@ mod views;
 
 pub use arrays::CacheArrays;
 pub use cache::{Cache, address_of};
+pub use meaning::laws;
 pub use line::{Busy, Foreign, InProgress, Line, Step, WayView};
 pub use policy::{Victim, oldest};
