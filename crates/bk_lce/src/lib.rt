@@ -1,6 +1,23 @@
 //! A cache: its lines, the table of what it does, and the policy that names its victims.
 #![tactic(auto)]
 
+mod arrays;
+mod cache;
+mod calls;
+mod comes;
+mod commands;
+mod grants;
+mod issue;
+mod meaning;
 mod line;
+mod looks;
+mod opening;
+mod places;
+mod policy;
+mod views;
 
+pub use arrays::CacheArrays;
+pub use cache::{Cache, address_of};
+pub use meaning::laws;
 pub use line::{Busy, Foreign, InProgress, Line, Step, WayView};
+pub use policy::{Victim, oldest};
