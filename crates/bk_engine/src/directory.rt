@@ -1,4 +1,4 @@
-ghost use Rattle.std.specs.Prelude.{◌≡◌, ◌<◌, ◌≤◌, IfSome};
+ghost use Rattle.std.specs.Prelude.{◌≡◌, ◌<◌, ◌≤◌, ◌^◌, IfSome};
 ghost use Rattle.bk_base.specs.Places.{group_of, tag_at, tag_limit};
 ghost use Rattle.bk_msg.specs.Within.{IsWay};
 ghost use Rattle.bk_dir.specs.Contents.{with_entry};
@@ -56,6 +56,8 @@ fn invalidate(
 )
     requires config { directory.old.config ≡ config }
     requires few { config.caches ≤ 8 }
+    requires others { summary.now.others < 2 ^ config.caches }
+    requires owner { IfSome summary.now.owner (λ at. at.0 < config.caches) }
     ensures state { contents_of directory.new ≡ invalidates config (contents_of directory.old) held.now with_owner summary.now }
     ensures config { directory.new.config ≡ config }
 {

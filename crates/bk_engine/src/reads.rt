@@ -1,4 +1,4 @@
-ghost use Rattle.std.specs.Prelude.{◌≡◌, ◌<◌, IfSome};
+ghost use Rattle.std.specs.Prelude.{◌≡◌, ◌<◌, ◌^◌, IfSome};
 ghost use Rattle.bk_isa.specs.Operands.{Operands};
 ghost use Rattle.bk_msg.specs.Within.{IsWay};
 ghost use Rattle.bk_dir.specs.Directories.{contents_of};
@@ -33,6 +33,7 @@ pub(crate) fn summary_for(config: Config, directory: &Directory, held: &Held) ->
     ensures value { result ≡ summary_for config (contents_of directory.now) held.now }
     ensures own_way { result.own_way < config.ways }
     ensures owner { IfSome result.owner (λ at. (at.0 < config.caches) × (at.1 < config.ways)) }
+    ensures others { result.others < 2 ^ config.caches }
 {
     directory.summary(asked_of(config, held))
 }
