@@ -1,8 +1,8 @@
 -- What an engine sends and pops is of the configuration.
-use Rattle.std.proofs.Common.{◌≡◌, ℕ, zero, suc, ◌<◌, ◌≤◌, List, [], ◌∷◌, Bool, true, false, Option, Some, None, refl, subst, inl, inr, arith}
+use Rattle.std.proofs.Common.{◌≡◌, ℕ, zero, suc, ◌<◌, ◌≤◌, List, [], ◌∷◌, Bool, Option, Some, None, refl, subst, sym, inl, inr, arith}
 use Rattle.std.specs.Prelude.{All, IfSome, MatchOption, ◌==◌, if◌then◌else◌}
 use Rattle.std.proofs.lemmas.Bool.{cond_both}
-use Rattle.std.proofs.lemmas.List.Elements.{All-append, All-cons, All-nil}
+use Rattle.std.proofs.lemmas.List.Elements.{All-append, All-cons, All-nil, All-same}
 use Rattle.bk_base.specs.Places.{Shape, block_start}
 use Rattle.bk_base.specs.Counting.{join_below}
 use Rattle.bk_base.specs.declared.coh.Coh.{Coh}
@@ -12,11 +12,11 @@ use Rattle.bk_isa.specs.declared.form.Form.TheVariants.{Popq, Inv, Stwb, Blk, Wa
 use Rattle.bk_msg.specs.declared.row.Row.{Row}
 use Rattle.bk_msg.specs.declared.row.Row.TheVariants as rows
 use Rattle.bk_msg.specs.declared.row.TheConstants.{ENGINE}
-use Rattle.bk_msg.specs.Within.{IsWithin, IsWay}
+use Rattle.bk_msg.specs.Within.{IsWay}
 use Rattle.bk_dir.specs.declared.entry.Asked.{Asked}
 use Rattle.bk_dir.specs.declared.entry.Summary.{Summary}
 use Rattle.bk_dir.specs.Contents.{Contents}
-use Rattle.bk_dir.specs.Laws.{OwnerSays, IsOwner, NoOwner}
+use Rattle.bk_dir.specs.Laws.{IsOwner, NoOwner}
 use Rattle.bk_dir.specs.Summaries.{summary}
 use Rattle.bk_dir.proofs.SummaryLaws.{owner-law}
 use Rattle.bk_engine.specs.declared.parts.Choice.{Choice}
@@ -27,7 +27,7 @@ use Rattle.bk_engine.specs.Core.{EngineState}
 use Rattle.bk_engine.specs.Kept.{IsHead, IsSound}
 use Rattle.bk_engine.specs.Outward.{IsOutward}
 use Rattle.bk_engine.specs.Reads.{asked_of, summary_for}
-use Rattle.bk_engine.specs.Sends.{is_invalidated, inv_to, invs, flush_to, victim_address, flushes, transfer_to, grants, answers_word, writes_back, sends_for, sends_held, sends}
+use Rattle.bk_engine.specs.Sends.{is_invalidated, inv_to, flush_to, victim_address, flushes, transfer_to, grants, answers_word, writes_back, sends_for, sends_held, sends}
 use Rattle.bk_engine.specs.Step.{choice_of, pops}
 
 -- the owner is a cache of the configuration
@@ -107,15 +107,23 @@ held-outward k n None f w = none k
 held-outward k n (Some held) f w = for-outward k n held f (w held refl)
 
 -- each message is of the configuration
-pub sends-outward : (k : Shape) (n : EngineState) (f : Form) → IsSound k n.core → All (IsOutward k) (sends k n f)
-sends-outward k n Memwb b = back-outward k n.core.dirty
-sends-outward k n f b = held-outward k n n.core.held f b.held
+pub sends_outward : (k : Shape) (n : EngineState) (f : Form) → IsSound k n.core → All (IsOutward k) (sends k n f)
+sends_outward k n Memwb b = back-outward k n.core.dirty
+sends_outward k n f b = held-outward k n n.core.held f b.held
+
+-- so of a list that is what is sent
+pub sent_outward : (k : Shape) (n : EngineState) (f : Form) (sent : List Row) → sent ≡ sends k n f → IsSound k n.core → All (IsOutward k) sent
+sent_outward k n f sent e b = All-same (IsOutward k) sent (sends k n f) e (sends_outward k n f b)
 
 choice-within : (k : Shape) (o : Option Head) → ((h : Head) → o ≡ Some h → IsHead k h) → IfSome (choice_of o) (λ choice. choice.source < k.caches)
 choice-within k None b = tt
 choice-within k (Some head) b = (b head refl).source
 
--- and so is the head that is popped
-pub pops-within : (k : Shape) (n : EngineState) (f : Form) → IsSound k n.core → IfSome (pops n f) (λ choice. choice.source < k.caches)
+pops-within : (k : Shape) (n : EngineState) (f : Form) → IsSound k n.core → IfSome (pops n f) (λ choice. choice.source < k.caches)
 pops-within k n (Popq _) b = choice-within k n.core.head b.head
 pops-within k n f b = tt
+
+-- and so is the head that is popped
+pub popped_within : (k : Shape) (n : EngineState) (f : Form) (popped : Option Choice) → popped ≡ pops n f → IsSound k n.core
+  → IfSome popped (λ choice. choice.source < k.caches)
+popped_within k n f popped e b = subst (λ (o : Option Choice). IfSome o (λ choice. choice.source < k.caches)) (sym e) (pops-within k n f b)

@@ -1,9 +1,9 @@
 -- An instruction leaves the engine's head and request of the configuration.
-use Rattle.std.proofs.Common.{◌≡◌, ℕ, ◌<◌, List, Option, Some, None, refl, subst}
+use Rattle.std.proofs.Common.{◌≡◌, ℕ, ◌<◌, Option, Some, None, refl, subst}
 use Rattle.std.specs.Prelude.{length}
 use Rattle.bk_base.specs.Places.{Shape, InProfile}
 use Rattle.bk_isa.specs.declared.form.Form.{Form}
-use Rattle.bk_isa.specs.declared.form.Form.TheVariants.{Rdw, Gad, Fin, Wfq, Popq, Defer, Inv, Memwb, Mova, Movs, Movw}
+use Rattle.bk_isa.specs.declared.form.Form.TheVariants.{Fin, Wfq, Popq, Defer, Mova, Movs, Movw}
 use Rattle.bk_msg.specs.declared.row.Row.{Row}
 use Rattle.bk_msg.specs.declared.row.Row.TheVariants as rows
 use Rattle.bk_msg.specs.Within.{IsWithin, IsWay}
@@ -14,7 +14,7 @@ use Rattle.bk_engine.specs.declared.parts.Held.{Held}
 use Rattle.bk_engine.specs.Core.{EngineState, new_core}
 use Rattle.bk_engine.specs.Heads.{request_of}
 use Rattle.bk_engine.specs.Kept.{IsHead, IsSound}
-use Rattle.bk_engine.specs.Changes.{reads_held, reads_request, took, popped, waited, serves, flags_set, core_changed, core_after, next_place}
+use Rattle.bk_engine.specs.Changes.{reads_request, took, popped, waited, core_changed, core_after, next_place}
 use Rattle.bk_engine.specs.Sends.{sends}
 use Rattle.bk_engine.proofs.Profile.{some_ways}
 

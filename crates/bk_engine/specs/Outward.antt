@@ -5,7 +5,6 @@ use Rattle.bk_msg.specs.declared.row.Row.{Row}
 use Rattle.bk_msg.specs.declared.row.Network.TheVariants.{Command, Memout}
 use Rattle.bk_msg.specs.Networks.{network_of}
 use Rattle.bk_msg.specs.Within.{IsWithin}
-use Rattle.bk_engine.specs.declared.parts.Choice.{Choice}
 use Rattle.bk_engine.specs.declared.engine.EngineStep.{EngineStep}
 use Rattle.bk_engine.specs.declared.engine.EngineStep.TheVariants.{Ran, Waits, Halted}
 

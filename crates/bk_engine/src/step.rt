@@ -60,6 +60,7 @@ fn pops(core: &Core, form: Form) -> Option<Choice>
 }
 
 /// Runs an instruction that has no reason not to run. All that it reads is read before the first write.
+#[tactic(auto, using(crate::proofs::Outward::sent_outward))]
 fn run_form(
     config: Config,
     core: &mut Core,
@@ -74,6 +75,8 @@ fn run_form(
     requires states { HasStates form }
     requires place { core.old.place < 256 }
     ensures answers { Answers (ran config (record { core = core.old; directory = contents_of directory.old }) form choice (option_copied message.entry)) (record { core = core.new; directory = contents_of directory.new }) result }
+    ensures sends { SendsWithin config result }
+    ensures pops { PopsWithin config result }
     ensures config { directory.new.config ≡ config }
 {
     let popped = pops(core, form);
