@@ -18,6 +18,7 @@ pub struct CacheArrays {
     pub(crate) recency: Vec<ArrayVec<u8, 8>>,
     pub(crate) busy: Option<InProgress>,
     ghost few_caches: { config.caches ≤ 8 },
+    ghost some_ways: { 1 ≤ config.ways },
     ghost few_ways: { config.ways ≤ 8 },
     ghost numbered: { number < config.caches },
     ghost lines_each: { vec_len lines ≡ config.sets * 8 },

@@ -2,9 +2,22 @@
 #![tactic(auto)]
 
 mod arrays;
+mod cache;
+mod calls;
+mod comes;
+mod commands;
+mod grants;
+mod issue;
+mod meaning;
 mod line;
+mod looks;
+mod opening;
+mod places;
 mod policy;
+mod views;
 
 pub use arrays::CacheArrays;
+pub use cache::{Cache, address_of};
+pub use meaning::laws;
 pub use line::{Busy, Foreign, InProgress, Line, Step, WayView};
-pub use policy::Victim;
+pub use policy::{Victim, oldest};
