@@ -8,6 +8,7 @@ use Rattle.bk_isa.specs.declared.form.Form.{Form}
 use Rattle.bk_lce.specs.declared.line.InProgress.{InProgress}
 use Rattle.bk_lce.specs.declared.line.WayView.{WayView}
 use Rattle.bk_lce.specs.Policies.{views}
+use Rattle.bk_lce.specs.Asked.{address_of}
 use Rattle.bk_lce.specs.CacheTable.{Taken, issue, issue_row, if_idle}
 use Rattle.bk_system.specs.declared.event.Event.{Event}
 use Rattle.bk_system.specs.declared.event.Event.TheVariants.{Issue, Command, Fill, Memory, Engine}
@@ -15,7 +16,7 @@ use Rattle.bk_base.specs.Counting.{or_else, first_below}
 use Rattle.bk_system.specs.State.{State, opening}
 use Rattle.bk_system.specs.Events.{takes, issue_taken}
 use Rattle.bk_system.specs.Runs.{is_enabled, after, IsTightFrom, IsTight}
-use Rattle.bk_system.specs.Greedy.{if_enabled, next_operation, ready, issue_with, choice_of, engine_of, fill_from, least_other, least_enabled, address_of_op, IsAsked, IsLeast, IsEnd, IsGreedyFrom, IsGreedy}
+use Rattle.bk_system.specs.Greedy.{if_enabled, next_operation, ready, issue_with, choice_of, engine_of, fill_from, least_other, least_enabled, IsAsked, IsLeast, IsEnd, IsGreedyFrom, IsGreedy}
 
 -- an Issue has the next operation of its cache in the trace
 abbrev pub IsNext : State → List (ℕ × Op) → Event → Type 0
@@ -160,5 +161,5 @@ least-unready policy k program s lines (Some event) l none e =
 
 -- a cache is ready: it issues its operation with a way that the policy answers
 pub least-ready : (policy : List WayView → ℕ → Type 0) (k : Shape) (program : List Form) (s : State) (lines : List (ℕ × Op)) (c : ℕ) (op : Op) (way : ℕ) → way < k.ways → first_below k.caches (ready k program s lines) ≡ Some (c, op)
-    → policy (views k (s.caches c) (group_of k (address_of_op op))) way → IsLeast policy k program s lines (Issue c op way)
+    → policy (views k (s.caches c) (group_of k (address_of op))) way → IsLeast policy k program s lines (Issue c op way)
 least-ready policy k program s lines c op way l first asked = record { way = way; within = l; least = rw first refl; asked = asked }

@@ -2,12 +2,12 @@
 use Rattle.std.specs.Prelude.{◌≡◌, ℕ, ◌+◌, ◌*◌, ◌<◌, List, [], ◌∷◌, Option, Some, None, option_and_then, option_map, length, if◌then◌else◌, slice_get}
 use Rattle.bk_base.specs.Places.{Shape, group_of}
 use Rattle.bk_base.specs.declared.op.Op.{Op}
-use Rattle.bk_base.specs.declared.op.Op.TheVariants as ops
 use Rattle.bk_isa.specs.declared.form.Form.{Form}
 use Rattle.bk_engine.specs.declared.parts.Choice.{Choice}
 use Rattle.bk_trace.specs.Traces.{operations_of}
 use Rattle.bk_lce.specs.declared.line.WayView.{WayView}
 use Rattle.bk_lce.specs.Policies.{views}
+use Rattle.bk_lce.specs.Asked.{address_of}
 use Rattle.bk_system.specs.declared.event.Event.{Event}
 use Rattle.bk_system.specs.declared.event.Event.TheVariants.{Issue, Command, Fill, Memory, Engine}
 use Rattle.bk_base.specs.Counting.{or_else, first_below}
@@ -56,15 +56,8 @@ least_enabled k program s lines way = or_else (option_map (issue_with way) (firs
 
 -- A policy is a relation between the views of a set and a way that it may answer. An Issue is as the policy says where its way is
 -- an answer to the views of the set of its address.
-abbrev pub address_of_op : Op → ℕ
-address_of_op (ops.Load addr) = addr
-address_of_op (ops.Store addr value) = addr
-address_of_op (ops.UcLoad addr) = addr
-address_of_op (ops.UcStore addr value) = addr
-address_of_op (ops.Evict addr) = addr
-
 abbrev pub IsAsked : (List WayView → ℕ → Type 0) → Shape → State → Event → Type 0
-IsAsked policy k s (Issue c op way) = policy (views k (s.caches c) (group_of k (address_of_op op))) way
+IsAsked policy k s (Issue c op way) = policy (views k (s.caches c) (group_of k (address_of op))) way
 IsAsked policy k s event = Unit {0}
 
 -- The greedy schedule takes an event: it is the least that is enabled, and an Issue has a way that the policy answers.

@@ -3,19 +3,17 @@ ghost use Rattle.std.specs.Option.{option_copied};
 ghost use Rattle.std.specs.Fn.{FnReturnsAt};
 ghost use Rattle.bk_base.specs.Counting.{first_below};
 ghost use Rattle.bk_lce.specs.Asked.{IsPolicy};
-ghost use Rattle.bk_lce.specs.Policies.{views};
-ghost use Rattle.bk_lce.specs.Caches as caches;
-ghost use Rattle.bk_system.specs.Greedy.{ready, engine_of, fill_from, if_enabled, least_other, next_operation, address_of_op, IsLeast, IsEnd};
+ghost use Rattle.bk_system.specs.Greedy.{ready, engine_of, fill_from, if_enabled, least_other, next_operation, IsLeast, IsEnd};
 ghost use Rattle.bk_system.specs.Systems.{state_of};
 ghost use Rattle.bk_system.specs.declared.event.Event.TheVariants.{Command};
 
 use crate::engine_channels::{MEMORY_ANSWERS, REQUESTS, RESPONSES};
 use crate::event::Event;
 use crate::hardware::Hardware;
-use bk_base::{Addr, Op, group_of};
+use bk_base::{Op, group_of};
 use bk_engine::Choice;
 use bk_isa::Instr;
-use bk_lce::{CacheArrays, Victim, WayView};
+use bk_lce::{Victim, WayView, address_of};
 use bk_trace::Trace;
 
 /// The next operation of a cache in the trace: number n of its own, where n is how many have completed.
@@ -169,28 +167,6 @@ pub(crate) fn least_other(hardware: &Hardware, program: &[Instr]) -> Option<Even
     if_enabled(hardware, program, Event::Memory)
 }
 
-/// The address that an operation is about.
-fn address_of(op: &Op) -> Addr
-    ensures { result ≡ address_of_op op.now }
-{
-    match op {
-        Op::Load(addr) => *addr,
-        Op::Store(addr, _) => *addr,
-        Op::UcLoad(addr) => *addr,
-        Op::UcStore(addr, _) => *addr,
-        Op::Evict(addr) => *addr,
-    }
-}
-
-fn choose<F: Fn(&[WayView]) -> u8 + Copy + Send>(victim: &Victim<F>, arrays: &CacheArrays, set: u8) -> u8
-    requires policy { IsPolicy F.Fn victim.now.pick }
-    requires set { set < arrays.now.config.sets }
-    ensures answer { FnReturnsAt F.Fn victim.now.pick (views arrays.now.config (caches.state_of arrays.now) set) result }
-    ensures within { result < arrays.now.config.ways }
-{
-    unreachable!()
-}
-
 /// The least enabled event of the greedy order; the way of an Issue is the policy's answer to the views of its set.
 pub(crate) fn least_of<F: Fn(&[WayView]) -> u8 + Copy + Send>(
     hardware: &Hardware,
@@ -208,7 +184,7 @@ pub(crate) fn least_of<F: Fn(&[WayView]) -> u8 + Copy + Send>(
         None => least_other(hardware, program),
         Some((cache, op)) => {
             let set = group_of(config, address_of(&op));
-            let way = choose(victim, hardware.cache(cache), set);
+            let way = victim.choose(hardware.cache(cache), set);
             Some(Event::Issue { cache, op, way })
         }
     }

@@ -5,7 +5,7 @@ use Rattle.bk_lce.specs.declared.line.WayView.{WayView}
 use Rattle.bk_lce.specs.CacheState.{CacheState}
 use Rattle.bk_lce.specs.Policies.{views}
 use Rattle.bk_lce.specs.Caches as caches
-use Rattle.bk_system.specs.Greedy.{address_of_op}
+use Rattle.bk_lce.specs.Asked.{address_of}
 use Rattle.bk_system.specs.Systems.{state_of}
 use Rattle.bk_system.proofs.Tight.{some-ways, least-unready, least-ready}
 use Rattle.bk_system.proofs.greedy.least_of.Goals as goal
@@ -21,10 +21,10 @@ returns-in-Some g c =
     let k = c.args.hardware.now.config in
     let s = state_of c.args.hardware.now in
     let policy : List WayView → ℕ → Type 0 = FnReturnsAt g.F.Fn c.args.victim.now.pick in
-    let set : c.group_of-set.result ≡ group_of k (address_of_op c.in-Some.op) =
+    let set : c.group_of-set.result ≡ group_of k (address_of c.in-Some.op) =
         c.group_of-set.ensures.value ∙ ap (λ (q : Shape). group_of q c.address_of.result) (c.config-config.ensures.value ∙ c.requires.config) ∙ ap (group_of k) c.address_of.ensures in
     let way : c.choose-way.result < k.ways = subst (λ (q : Shape). c.choose-way.result < q.ways) c.cache.ensures.config c.choose-way.ensures.within in
-    let asked : policy (views k (s.caches c.in-Some.cache) (group_of k (address_of_op c.in-Some.op))) c.choose-way.result =
+    let asked : policy (views k (s.caches c.in-Some.cache) (group_of k (address_of c.in-Some.op))) c.choose-way.result =
         subst (λ (g : ℕ). policy (views k (s.caches c.in-Some.cache) g) c.choose-way.result) set
         (subst (λ (n : CacheState). policy (views k n c.group_of-set.result) c.choose-way.result) c.cache.ensures.state
         (subst (λ (q : Shape). policy (views q (caches.state_of c.cache.result.now) c.group_of-set.result) c.choose-way.result) c.cache.ensures.config c.choose-way.ensures.answer)) in
