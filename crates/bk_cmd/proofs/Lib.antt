@@ -2,3 +2,4 @@ pub mod Ends
 pub mod Decimals
 mod Statuses
 mod Parts
+mod Protocols

@@ -6,3 +6,4 @@ pub mod Counted
 pub mod Scheduling
 pub mod Prefixes
 pub mod Ends
+pub mod RowOne
