@@ -5,6 +5,7 @@ mod changes;
 mod directory;
 mod engine;
 mod heads;
+pub mod laws;
 mod parts;
 mod reads;
 mod registers;
