@@ -1,5 +1,5 @@
 -- What the instructions mean for the directory and the caches.
-use Rattle.std.specs.Prelude.{◌≡◌, ◌≢◌, ℕ, ◌<◌, Bool, true, false, ◌&&◌, ◌||◌, ◌==◌, if◌then◌else◌, List, Option, Some, All, count_by}
+use Rattle.std.specs.Prelude.{◌≡◌, ◌≢◌, ℕ, ◌<◌, Bool, true, false, ◌==◌, List, Option, Some, All, count_by}
 use Rattle.bk_base.specs.Places.{Shape, block_start, group_of, tag_at}
 use Rattle.bk_isa.specs.declared.form.Form.{Form}
 use Rattle.bk_isa.specs.declared.form.Form.TheVariants.{Popq, Wde, Wds, Inv, Stwb}
@@ -16,7 +16,7 @@ use Rattle.bk_engine.specs.declared.stop.Halt.{Halt}
 use Rattle.bk_engine.specs.declared.stop.Stop.TheVariants.{Halts}
 use Rattle.bk_engine.specs.Core.{EngineState}
 use Rattle.bk_engine.specs.Heads.{head_number}
-use Rattle.bk_engine.specs.Reads.{asked_of}
+use Rattle.bk_engine.specs.Reads.{asked_of, summary_for}
 use Rattle.bk_engine.specs.Changes.{directory_after}
 use Rattle.bk_engine.specs.Sends.{sends}
 use Rattle.bk_engine.specs.Stops.{stop_of}
@@ -80,11 +80,16 @@ pub record IsInvalidated (k : Shape) (n : EngineState) (held : Held) (a c : ℕ)
 -- so is each other cache with an entry S of the block
 abbrev pub InvReaches : Type 0
 InvReaches = (k : Shape) (n : EngineState) (held : Held) (a c : ℕ) → n.core.held ≡ Some held → c < k.caches
-  → is_other k n.directory (asked_of k held) c ≡ true → IsInvalidated k n held a c
+    → is_other k n.directory (asked_of k held) c ≡ true → IsInvalidated k n held a c
+
+-- `inv o` reaches the owner too
+abbrev pub InvReachesOwner : Type 0
+InvReachesOwner = (k : Shape) (n : EngineState) (held : Held) (at : ℕ × ℕ) → n.core.held ≡ Some held
+    → (summary_for k n.directory held).owner ≡ Some at → IsInvalidated k n held 1 at.0
 
 -- HALTS
 
 -- an engine that halts halts again for the same reason, whatever it is offered
 abbrev pub HaltsForGood : Type 0
 HaltsForGood = (k : Shape) (n : EngineState) (program : List Form) (reason : Halt) (first next : Choice) (offered later : Option Row)
-  → stop_of k n program first offered ≡ Some (Halts reason) → stop_of k n program next later ≡ Some (Halts reason)
+    → stop_of k n program first offered ≡ Some (Halts reason) → stop_of k n program next later ≡ Some (Halts reason)

@@ -1,5 +1,5 @@
 -- The laws, as they are proved in InstructionLaws.
-use Rattle.bk_engine.proofs.InstructionLaws.{only_pop_marks, request_marks, coh_ack_marks, only_four_write, inv_sends, inv_reaches, halts_for_good}
+use Rattle.bk_engine.proofs.InstructionLaws.{only_pop_marks, request_marks, coh_ack_marks, only_four_write, inv_sends, inv_reaches, inv_reaches_owner, halts_for_good}
 use Rattle.bk_engine.proofs.laws.laws.Goals as goal
 
 pub returns-clause-only_pop_marks : goal.returns-clause-only_pop_marks
@@ -22,3 +22,6 @@ returns-clause-inv_reaches c = inv_reaches
 
 pub returns-clause-halts_for_good : goal.returns-clause-halts_for_good
 returns-clause-halts_for_good c = halts_for_good
+
+pub returns-clause-inv_reaches_owner : goal.returns-clause-inv_reaches_owner
+returns-clause-inv_reaches_owner c = inv_reaches_owner
