@@ -1,14 +1,2 @@
-pub mod RowOne
-pub mod Words
 pub mod Queues
-pub mod Opening
-pub mod Busy
-pub mod EventRows
-pub mod Entries
-pub mod Tight
-pub mod InOrder
-pub mod Lines
-pub mod Counted
-pub mod Scheduling
-pub mod Prefixes
-pub mod Ends
+pub mod Words

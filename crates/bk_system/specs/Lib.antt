@@ -1,13 +1,3 @@
 pub mod Channels
-pub mod Counted
-pub mod Events
-pub mod Faults
-pub mod Greedy
-pub mod Kept
 pub mod Memory
-pub mod Report
-pub mod Runs
-pub mod Serial
-pub mod State
-pub mod Systems
-pub mod Whole
+pub mod Queues
