@@ -17,8 +17,8 @@ unfolding entries_of
 entries_of-at xs c s w lc lw = grind (arith, nat_tests)
 
 -- the same, for an item that the list has there
-pub entries_of-item : (xs : List Entry) (n c s w : ℕ) (x : Entry) → c < 8 → w < 8 → place_of c s w < n → n ≡ length xs → x ≡ get_or xs (place_of c s w) x
-    → x ≡ entries_of xs c s w
+pub entries_of-item : (xs : List Entry) (n c s w : ℕ) (x : Entry) → c < 8 → w < 8 → place_of c s w < n → n ≡ length xs
+    → x ≡ get_or xs (place_of c s w) x → x ≡ entries_of xs c s w
 entries_of-item xs n c s w x lc lw l e r = get_or_read_under xs (place_of c s w) n x empty_entry r l e ∙ sym (entries_of-at xs c s w lc lw)
 
 written-at : (xs : List Entry) (c s w : ℕ) (x : Entry) (c' s' w' : ℕ) → c < 8 → w < 8 → place_of c s w < length xs
@@ -39,7 +39,8 @@ written-way f c s w x c' s' w' =
 -- one entry of the list written is one entry of the function written: no other entry has its place
 pub entries_of-set : (xs : List Entry) (c s w : ℕ) (x : Entry) → c < 8 → w < 8 → place_of c s w < length xs
     → entries_of (set xs (place_of c s w) x) ≡ put (entries_of xs) c (put (entries_of xs c) s (put (entries_of xs c s) w x))
-entries_of-set xs c s w x lc lw l = fun_ext (λ c'. fun_ext (λ s'. fun_ext (λ w'. written-at xs c s w x c' s' w' lc lw l ∙ written-way (entries_of xs) c s w x c' s' w')))
+entries_of-set xs c s w x lc lw l =
+    fun_ext (λ c'. fun_ext (λ s'. fun_ext (λ w'. written-at xs c s w x c' s' w' lc lw l ∙ written-way (entries_of xs) c s w x c' s' w')))
 
 -- a list of equal items
 same-at : {X : Type 0} (n i : ℕ) (x : X) → get_or (replicate n x) i x ≡ x

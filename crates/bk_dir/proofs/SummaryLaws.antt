@@ -9,6 +9,7 @@ use Rattle.bk_base.specs.declared.coh.Coh.{Coh}
 use Rattle.bk_base.specs.declared.coh.Coh.TheVariants.{I, S}
 use Rattle.bk_base.proofs.Below.{least_below-none, least_below-some, first_below-none, first_below-some}
 use Rattle.bk_dir.proofs.Bits.{bits-small, bits-say}
+use Rattle.bk_dir.proofs.EntryTests.{holds_at, answers_at, shares_at}
 use Rattle.bk_dir.specs.declared.entry.Entry.{Entry}
 use Rattle.bk_dir.specs.declared.entry.Asked.{Asked}
 use Rattle.bk_dir.specs.declared.entry.Summary.{Summary}
@@ -53,9 +54,9 @@ shares-made entry tag p = and_from (holds entry tag) (is_shared entry.state)
 -- FOUND and OWN
 
 found-says : (k : Shape) (d : Contents) (c s tag : ℕ) (answer : Option ℕ) → found k d c s tag ≡ answer → FoundSays k d c s tag answer
-found-says k d c s tag None e = λ w l. holds-not (d.entries c s w) tag (least_below-none k.ways (λ v. holds (d.entries c s v) tag) e w l)
+found-says k d c s tag None e = λ w l. holds-not (d.entries c s w) tag (least_below-none k.ways (holds_at d c s tag) e w l)
 found-says k d c s tag (Some w) e =
-    let least = least_below-some k.ways (λ v. holds (d.entries c s v) tag) w e in
+    let least = least_below-some k.ways (holds_at d c s tag) w e in
     record { within = least.0; holds = holds-says (d.entries c s w) tag least.1; least = λ v l. holds-not (d.entries c s v) tag (least.2 v l) }
 
 pub found-law : (k : Shape) (d : Contents) (c s tag : ℕ) → FoundSays k d c s tag (found k d c s tag)
@@ -92,7 +93,7 @@ with_cache-some c (Some w) at h = let e : (c, w) ≡ at = cc in (ap (λ (p : ℕ
 
 no-answer : (k : Shape) (d : Contents) (c s tag : ℕ) → owner_way k d c s tag ≡ None → (w : ℕ) → w < k.ways → ¬ AnswersFor (d.entries c s w) tag
 no-answer k d c s tag e w l =
-    answers-not (d.entries c s w) tag (least_below-none k.ways (λ v. holds (d.entries c s v) tag && is_owner_like (d.entries c s v).state) e w l)
+    answers-not (d.entries c s w) tag (least_below-none k.ways (answers_at d c s tag) e w l)
 
 no-owner : (k : Shape) (d : Contents) (asked : Asked) (n : ℕ) → ((c : ℕ) → c < n → owner_at k d asked c ≡ None)
     → (c w : ℕ) → c < n → c ≢ asked.cache → w < k.ways → ¬ AnswersFor (d.entries c asked.set w) asked.tag
@@ -100,10 +101,10 @@ no-owner k d asked n none c w l differ =
     no-answer k d c asked.set asked.tag
     (with_cache-none c (owner_way k d c asked.set asked.tag) (sym (owner_at-other k d asked c differ) ∙ none c l)) w
 
-the-owner : (k : Shape) (d : Contents) (asked : Asked) (c w : ℕ) → c < k.caches → c ≢ asked.cache → owner_way k d c asked.set asked.tag ≡ Some w
-    → ((e : ℕ) → e < c → owner_at k d asked e ≡ None) → IsOwner k d asked c w
+the-owner : (k : Shape) (d : Contents) (asked : Asked) (c w : ℕ) → c < k.caches → c ≢ asked.cache
+    → owner_way k d c asked.set asked.tag ≡ Some w → ((e : ℕ) → e < c → owner_at k d asked e ≡ None) → IsOwner k d asked c w
 the-owner k d asked c w l differ e before =
-    let least = least_below-some k.ways (λ v. holds (d.entries c asked.set v) asked.tag && is_owner_like (d.entries c asked.set v).state) w e in
+    let least = least_below-some k.ways (answers_at d c asked.set asked.tag) w e in
     record {
       cache_within = l;
       is_other = differ;
@@ -137,31 +138,31 @@ owner-law k d asked = owner-says k d asked (owner k d asked) refl
 -- OTHERS
 
 shares-at : (k : Shape) (d : Contents) (c s tag w : ℕ) → w < k.ways → Shares (d.entries c s w) tag → (answer : Option ℕ)
-    → least_below k.ways (λ v. holds (d.entries c s v) tag && is_shared (d.entries c s v).state) ≡ answer → is_some answer ≡ true
+    → least_below k.ways (shares_at d c s tag) ≡ answer → is_some answer ≡ true
 shares-at k d c s tag w l p None e =
-    absurd (both_ways (holds (d.entries c s w) tag && is_shared (d.entries c s w).state)
-    (least_below-none k.ways (λ v. holds (d.entries c s v) tag && is_shared (d.entries c s v).state) e w l) (shares-made (d.entries c s w) tag p))
+    absurd (both_ways (shares_at d c s tag w)
+    (least_below-none k.ways (shares_at d c s tag) e w l) (shares-made (d.entries c s w) tag p))
 shares-at k d c s tag w l p (Some v) e = refl
 
 sharer : (k : Shape) (d : Contents) (c s tag : ℕ) (answer : Option ℕ)
-    → least_below k.ways (λ v. holds (d.entries c s v) tag && is_shared (d.entries c s v).state) ≡ answer → is_some answer ≡ true
+    → least_below k.ways (shares_at d c s tag) ≡ answer → is_some answer ≡ true
     → (w : ℕ) × (w < k.ways) × Shares (d.entries c s w) tag
 sharer k d c s tag None e h = absurd (cc)
 sharer k d c s tag (Some w) e h =
-    let least = least_below-some k.ways (λ v. holds (d.entries c s v) tag && is_shared (d.entries c s v).state) w e in
+    let least = least_below-some k.ways (shares_at d c s tag) w e in
     (w, least.0, shares-says (d.entries c s w) tag least.1)
 
 is_other-says : (k : Shape) (d : Contents) (asked : Asked) (c : ℕ) → is_other k d asked c ≡ true → IsOther k d asked c
 is_other-says k d asked c h =
     let parts = and_parts (not (eqb c asked.cache)) (shares k d c asked.set asked.tag) h in
-    let at = sharer k d c asked.set asked.tag (least_below k.ways (λ v. holds (d.entries c asked.set v) asked.tag && is_shared (d.entries c asked.set v).state)) refl parts.1 in
+    let at = sharer k d c asked.set asked.tag (least_below k.ways (shares_at d c asked.set asked.tag)) refl parts.1 in
     record { is_other = eqb-false c asked.cache (not-true (eqb c asked.cache) parts.0); way = at.0; within = at.1; shares = at.2 }
 
 is_other-made : (k : Shape) (d : Contents) (asked : Asked) (c : ℕ) → IsOther k d asked c → is_other k d asked c ≡ true
 is_other-made k d asked c p =
     and_from (not (eqb c asked.cache)) (shares k d c asked.set asked.tag) (ap not (ne_eqb c asked.cache p.is_other))
     (shares-at k d c asked.set asked.tag p.way p.within p.shares
-    (least_below k.ways (λ v. holds (d.entries c asked.set v) asked.tag && is_shared (d.entries c asked.set v).state)) refl)
+    (least_below k.ways (shares_at d c asked.set asked.tag)) refl)
 
 pub bits-law : (k : Shape) (d : Contents) (asked : Asked) (c : ℕ) → c < k.caches → has_bit (summary k d asked).others c ≡ is_other k d asked c
 bits-law k d asked c l = bits-say k.caches (is_other k d asked) c l

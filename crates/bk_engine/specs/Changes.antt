@@ -20,7 +20,7 @@ use Rattle.bk_engine.specs.declared.parts.Held.{Held}
 use Rattle.bk_engine.specs.Core.{EngineState}
 use Rattle.bk_engine.specs.Heads.{head_number, request_of}
 use Rattle.bk_engine.specs.Reads.{register, flag, summary_for, goes, target}
-use Rattle.bk_engine.specs.Sends.{is_invalidated, invs}
+use Rattle.bk_engine.specs.Sends.{is_invalidated, sends}
 
 -- REGISTERS, modulo 2^64
 
@@ -92,35 +92,31 @@ waited e choice (Some message) = record e { head = Some (record { choice = choic
 
 -- THE REQUEST
 
--- the acks of the invalidations that are sent, counted modulo 2^64
-abbrev pub owes_acks : Shape → EngineState → Bool → Option Held → ℕ
-owes_acks k n with_owner None = n.core.acks
-owes_acks k n with_owner (Some held) = (n.core.acks + length (invs k held with_owner (summary_for k n.directory held))) % 2 ^ 64
+-- `inv` counts the invalidations that are sent, modulo 2^64
+abbrev pub serves : Core → ℕ → Form → Core
+serves e sent Rdw = record e { summ = 1 }
+serves e sent Gad = record e { summ = 2 }
+serves e sent Fin = record e { held = None; summ = 0; got = None }
+serves e sent (Inv _) = record e { acks = (e.acks + sent) % 2 ^ 64 }
+serves e sent Memwb = record e { dirty = None }
+serves e sent (Mova a) = reads_request e e.held (Mova a)
+serves e sent (Movs a) = reads_request e e.held (Movs a)
+serves e sent (Movw a) = reads_request e e.held (Movw a)
+serves e sent f = flags_set e f
 
-abbrev pub serves : Shape → EngineState → Form → Core
-serves k n Rdw = record n.core { summ = 1 }
-serves k n Gad = record n.core { summ = 2 }
-serves k n Fin = record n.core { held = None; summ = 0; got = None }
-serves k n (Inv a) = record n.core { acks = owes_acks k n (a == 1) n.core.held }
-serves k n Memwb = record n.core { dirty = None }
-serves k n (Mova a) = reads_request n.core n.core.held (Mova a)
-serves k n (Movs a) = reads_request n.core n.core.held (Movs a)
-serves k n (Movw a) = reads_request n.core n.core.held (Movw a)
-serves k n f = flags_set n.core f
-
--- the engine but for its place
-abbrev pub core_changed : Shape → EngineState → Form → Choice → Option Row → Core
-core_changed k n (Wfq _) choice message = waited n.core choice message
-core_changed k n (Popq _) choice message = popped n.core n.core.head
-core_changed k n Defer choice message = record n.core { head = None }
-core_changed k n f choice message = serves k n f
+-- the engine but for its place, where the instruction sends so many messages
+abbrev pub core_changed : Core → ℕ → Form → Choice → Option Row → Core
+core_changed e sent (Wfq _) choice message = waited e choice message
+core_changed e sent (Popq _) choice message = popped e e.head
+core_changed e sent Defer choice message = record e { head = None }
+core_changed e sent f choice message = serves e sent f
 
 -- a branch that is taken goes to its target, else the next place comes
 abbrev pub next_place : Shape → EngineState → Form → ℕ
 next_place k n f = if goes k n f then target f else n.core.place + 1
 
 abbrev pub core_after : Shape → EngineState → Form → Choice → Option Row → Core
-core_after k n f choice message = record (core_changed k n f choice message) { place = next_place k n f }
+core_after k n f choice message = record (core_changed n.core (length (sends k n f)) f choice message) { place = next_place k n f }
 
 -- THE DIRECTORY
 
@@ -128,11 +124,15 @@ core_after k n f choice message = record (core_changed k n f choice message) { p
 abbrev pub wiped : ℕ → Entry → Entry
 wiped tag entry = if holds entry tag then record entry { state = I } else entry
 
+-- the same at each way of the configuration
+abbrev pub wiped_at : Shape → ℕ → (ℕ → Entry) → ℕ → Entry
+wiped_at k tag entries w = if nat_lt w k.ways then wiped tag (entries w) else entries w
+
 -- each entry of the block of a cache that is sent an Inv
 abbrev pub invalidates : Shape → Contents → Held → Bool → Summary → Contents
 invalidates k d held with_owner s = record d {
   entries = λ c. if is_invalidated with_owner s c
-      then put (d.entries c) (group_of k held.addr) (λ w. wiped (tag_at k held.addr) (d.entries c (group_of k held.addr) w))
+      then put (d.entries c) (group_of k held.addr) (wiped_at k (tag_at k held.addr) (d.entries c (group_of k held.addr)))
       else d.entries c;
 }
 

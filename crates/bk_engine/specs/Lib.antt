@@ -3,7 +3,9 @@ pub mod Core
 pub mod Engines
 pub mod Heads
 pub mod Kept
+pub mod Ranges
 pub mod Reads
 pub mod Sends
 pub mod Step
 pub mod Stops
+pub mod Wiping

@@ -1,10 +1,17 @@
 //! The engine: what one instruction of its microcode does.
 #![tactic(auto)]
 
+mod changes;
+mod directory;
 mod engine;
+mod heads;
 mod parts;
+mod reads;
+mod registers;
+mod sends;
 mod stop;
 
 pub use engine::{Engine, EngineStep};
+pub use heads::{head_number, names_class};
 pub use parts::{Choice, Core, Head, Held, Kept, RequestKind};
 pub use stop::{Halt, Stop};

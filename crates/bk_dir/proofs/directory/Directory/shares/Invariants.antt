@@ -1,11 +1,8 @@
 use Rattle.std.proofs.Common.{◌≡◌, None}
-use Rattle.std.specs.Prelude.{◌&&◌}
 use Rattle.bk_base.specs.Counting.{least_below}
 use Rattle.bk_dir.specs.Directories.{contents_of}
-use Rattle.bk_dir.specs.Summaries.{holds, is_shared}
+use Rattle.bk_dir.proofs.EntryTests.{shares_at}
 use Rattle.bk_dir.proofs.directory.Directory.shares.Given as goal
 
 abbrev pub invariant-loop-way : goal.invariant-loop-way
-invariant-loop-way l =
-    least_below l.way (λ w. holds ((contents_of l.self).entries l.cache l.set w) l.tag && is_shared ((contents_of l.self).entries l.cache l.set w).state)
-    ≡ None
+invariant-loop-way l = least_below l.way (shares_at (contents_of l.self) l.cache l.set l.tag) ≡ None
