@@ -1,3 +1,4 @@
 pub mod Dropped
+pub mod Proper
 pub mod Recent
 pub mod Written

@@ -1,11 +1,11 @@
-ghost use Rattle.std.specs.Prelude.{◌≡◌, ◌<◌, IfSome, is_some, true};
+ghost use Rattle.std.specs.Prelude.{◌≡◌, ◌<◌, IfSome, true};
 ghost use Rattle.bk_base.specs.Places.{tag_at};
 ghost use Rattle.bk_msg.specs.declared.table.States.TheVariants.{Received};
 ghost use Rattle.bk_msg.specs.Table.{holds as suits};
 ghost use Rattle.bk_lce.specs.CacheState.{with_line};
 ghost use Rattle.bk_lce.specs.CacheTable.{Gives, answers, wiped, invalidated, lowered, flush_answer, flush_row, transfer_row};
 ghost use Rattle.bk_lce.specs.Caches.{state_of};
-ghost use Rattle.bk_lce.specs.Calls.{Takes, CanTransfer};
+ghost use Rattle.bk_lce.specs.Calls.{Takes};
 
 use crate::arrays::CacheArrays;
 use crate::line::{Foreign, Line, Step};
@@ -29,7 +29,7 @@ fn wiped(tag: u64, line: Line) -> Line
 
 impl CacheArrays {
     /// Answers a message, and completes nothing.
-    fn answers(&self, message: Message) -> Step
+    pub(crate) fn answers(&self, message: Message) -> Step
         ensures { Takes (answers (state_of self.now) message) (state_of self.now) result }
     {
         Step {
@@ -53,7 +53,7 @@ impl CacheArrays {
     }
 
     /// Drops each line that holds the block of an address.
-    fn invalidate(&mut self, addr: Addr)
+    pub(crate) fn invalidate(&mut self, addr: Addr)
         ensures state { state_of self.new ≡ invalidated self.old.config (state_of self.old) addr }
         ensures config { self.new.config ≡ self.old.config }
         ensures number { self.new.number ≡ self.old.number }
@@ -104,13 +104,6 @@ impl CacheArrays {
         }
     }
 
-    /// Whether `StWb` has a row, where a copy stands at a way or nowhere.
-    pub(crate) fn can_flush(&self, addr: Addr, state: Coh, at: Option<u8>) -> bool
-        ensures { result ≡ is_some (flush_row self.now.config (state_of self.now) self.now.number addr state at) }
-    {
-        at.is_some()
-    }
-
     /// `StTr`: the copy at a way takes a state, and fills a way of a peer.
     pub(crate) fn transfer_row(
         &mut self,
@@ -139,16 +132,6 @@ impl CacheArrays {
                 self.lower(addr, at, state);
                 Ok(self.answers(Message::fill(self.number, peer, peer_way, peer_state, addr, words)))
             }
-        }
-    }
-
-    /// Whether `StTr` has a row, where a copy stands at a way or nowhere.
-    pub(crate) fn can_transfer(&self, peer: u8, at: Option<u8>) -> bool
-        ensures { CanTransfer self.now.config (state_of self.now) self.now.number peer at result }
-    {
-        match at {
-            None => false,
-            Some(_) => peer != self.number,
         }
     }
 }

@@ -2,10 +2,13 @@
 #![tactic(auto)]
 
 mod arrays;
+mod calls;
+mod comes;
 mod commands;
 mod grants;
 mod issue;
 mod line;
+mod looks;
 mod places;
 mod policy;
 
