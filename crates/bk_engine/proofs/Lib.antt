@@ -1,2 +1,5 @@
+pub mod Operands
+pub mod Outward
 pub mod Profile
+pub mod Sound
 pub mod Wiping

@@ -3,8 +3,10 @@ pub mod Core
 pub mod Engines
 pub mod Heads
 pub mod Kept
+pub mod Outward
 pub mod Ranges
 pub mod Reads
+pub mod Running
 pub mod Sends
 pub mod Step
 pub mod Stops

@@ -9,6 +9,7 @@ mod parts;
 mod reads;
 mod registers;
 mod sends;
+mod step;
 mod stop;
 
 pub use engine::{Engine, EngineStep};

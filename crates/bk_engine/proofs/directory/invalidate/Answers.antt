@@ -1,10 +1,8 @@
 -- At each cache, its entries are wiped where it is sent an invalidation.
-use Rattle.std.proofs.Common.{ℕ, ◌≡◌, ◌≤◌, ◌∙◌, ap, sym, arith}
+use Rattle.std.proofs.Common.{◌≡◌, ◌∙◌, ap, sym, arith}
 use Rattle.bk_base.specs.Places.{Shape}
 use Rattle.bk_dir.specs.declared.directory.Directory.{Directory}
-use Rattle.bk_dir.specs.Contents.{Contents}
 use Rattle.bk_dir.specs.Directories.{contents_of}
-use Rattle.bk_engine.specs.Changes.{wiped_at}
 use Rattle.bk_engine.specs.Sends.{is_invalidated}
 use Rattle.bk_engine.proofs.Wiping.{caches-passed, caches-more, invalidates-all}
 use Rattle.bk_engine.proofs.directory.invalidate.Goals as goal
