@@ -1,2 +1,4 @@
+pub mod Entries
+pub mod Fills
 pub mod Queues
 pub mod Words

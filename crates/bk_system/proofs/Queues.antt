@@ -1,11 +1,12 @@
 -- The channels of a network kept in a list.
-use Rattle.std.proofs.Common.{◌≡◌, ℕ, zero, suc, ◌<◌, ◌≤◌, List, [], ◌∷◌, ◌++◌, Bool, true, false, cond, eqb, Option, Some, None, refl, ap, sym, ◌∙◌, length, get_or, set, arith}
+use Rattle.std.proofs.Common.{◌≡◌, ◌≢◌, ℕ, zero, suc, ◌<◌, ◌≤◌, List, [], ◌∷◌, ◌++◌, Bool, true, false, cond, eqb, Option, Some, None, refl, ap, sym, ◌∙◌, length, get_or, set, arith}
 use Rattle.std.specs.Prelude.{slice_get, ◌==◌}
 use Rattle.std.specs.Option.{option_map_or}
 use Rattle.std.proofs.lemmas.Bool.Decides.{nat_tests}
 use mathlib.Core.Path.{fun_ext}
 use Rattle.std.specs.Option.{option_copied, option_to_list, MatchOption, IfSome}
-use Rattle.std.specs.Prelude.{⊤}
+use Rattle.std.specs.Prelude.{⊤, All}
+use Rattle.bk_engine.specs.Outward.{IsOutward}
 use Rattle.std.proofs.Common.{Result, Ok, Err}
 use Rattle.std.specs.Result.{OnOk}
 use Rattle.std.specs.Slice.{IsItemAt}
@@ -83,11 +84,20 @@ pub put_at : {X : Type 0} (f : ℕ → X) (k : ℕ) (x : X) → put f k x k ≡ 
 unfolding put
 put_at f k x = grind (arith, nat_tests)
 
+-- the other values
+pub put_other : {X : Type 0} (f : ℕ → X) (k : ℕ) (x : X) (j : ℕ) → j ≢ k → put f k x j ≡ f j
+unfolding put
+put_other f k x j n = grind (arith, nat_tests)
+
 pub queue-set : (a b : Channels) (c : ℕ) (q : Queue) → b.queues.items ≡ set a.queues.items c q → c < vec_len a.queues → queue b ≡ put (queue a) c q.items
 unfolding queue
 queue-set a b c q e l =
     let lt : c < length a.queues.items = omega (arith, a.queues.ok.0) in
     ap (λ (qs : List Queue). at (λ (x : Queue). x.items) [] qs) e ∙ table-set (λ (x : Queue). x.items) [] a.queues.items c q lt
+
+-- the channel whose queue was changed
+pub queue-at : (a b : Channels) (c : ℕ) (q : Queue) → b.queues.items ≡ set a.queues.items c q → c < vec_len a.queues → queue b c ≡ q.items
+queue-at a b c q e l = ap (λ (f : ℕ → List Row). f c) (queue-set a b c q e l) ∙ put_at (queue a) c q.items
 
 pub queue-item : (a : Channels) (c : ℕ) (q : Queue) → c < vec_len a.queues → q ≡ get_or a.queues.items c q → queue a c ≡ q.items
 unfolding queue
@@ -199,3 +209,7 @@ pub within-first : (k : Shape) (xs : List Row) (r : Option (Bor Row)) → IsItem
 within-first k xs None h p = tt
 within-first k [] (Some b) h p = absurd (let l : 0 < length {A = Row} [] = h.3.0 in omega arith)
 within-first k (x ∷ xs) (Some b) h p = subst (IsWithin k) (sym h.1) p.0
+
+-- a message of those that the engine sends
+pub outward-at : (k : Shape) (xs : List Row) (i : ℕ) (m : Row) → All (IsOutward k) xs → i < length xs → m ≡ get_or xs i m → IsWithin k m
+outward-at k xs i m h l e = subst (IsWithin k) (sym e) (h i m l).within

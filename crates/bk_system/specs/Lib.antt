@@ -1,7 +1,10 @@
+pub mod Banks
 pub mod Channels
 pub mod Events
 pub mod Kept
 pub mod Memory
 pub mod Queues
+pub mod Rooms
 pub mod Runs
 pub mod State
+pub mod Systems

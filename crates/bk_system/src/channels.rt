@@ -53,6 +53,7 @@ impl Channels {
         requires room { 1 ≤ room self.old channel }
         requires within { IsWithin self.old.config message.now }
         ensures queue { queue self.new ≡ put (queue self.old) channel (queue self.old channel ++ message.now ∷ []) }
+        ensures own { queue self.new channel ≡ queue self.old channel ++ message.now ∷ [] }
         ensures room { (c : ℕ) → room self.old c ≤ room self.new c + 1 }
         ensures count { channel_count self.new ≡ channel_count self.old }
         ensures config { self.new.config ≡ self.old.config }
@@ -66,6 +67,7 @@ impl Channels {
         requires { channel < channel_count self.old }
         ensures head { result ≡ slice_get (queue self.old channel) 0 }
         ensures rest { queue self.new ≡ put (queue self.old) channel (drop 1 (queue self.old channel)) }
+        ensures own { queue self.new channel ≡ drop 1 (queue self.old channel) }
         ensures count { channel_count self.new ≡ channel_count self.old }
         ensures config { self.new.config ≡ self.old.config }
     {

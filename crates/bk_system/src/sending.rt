@@ -1,15 +1,15 @@
-ghost use Rattle.std.specs.Prelude.{◌≡◌, ◌+◌, ◌<◌, ◌≤◌, ℕ, List, OnOk, Some, ◌∷◌, length, vec_len, vec_capacity, ◌++◌};
+ghost use Rattle.std.specs.Prelude.{◌≡◌, ◌+◌, ◌<◌, ◌≤◌, ℕ, List, OnOk, Some, [], ◌∷◌, length, All, vec_len, vec_capacity, ◌++◌};
 ghost use Rattle.std.specs.Option.{option_to_list};
 ghost use Rattle.bk_base.specs.declared.op.Done.{Done};
 ghost use Rattle.bk_msg.specs.Within.{IsWithin};
 ghost use Rattle.bk_msg.specs.declared.row.Row.{Row};
+ghost use Rattle.bk_engine.specs.Outward.{IsOutward};
 ghost use Rattle.bk_system.specs.Channels.{queue, room, channel_count};
 ghost use Rattle.bk_system.specs.Events.{requests_with, responses_with, fills_with, commands_with, memout_with};
 ghost use Rattle.bk_system.specs.Kept.{fill_place, fills_of, AreCounts};
-ghost use Rattle.bk_system.specs.Queues.{EachWithin};
 
 use crate::channels::Channels;
-use bk_base::{Config, Done};
+use bk_base::{Done, Op};
 use bk_msg::{Message, Network, Row};
 use std::alloc::AllocError;
 
@@ -112,24 +112,50 @@ pub(crate) fn reserve_each(channels: &mut Channels, count: u8, more: usize) -> R
     Ok(())
 }
 
-/// Adds the operation that has completed, if any, to the history, for which room was made, and counts it
-/// for its cache.
-pub(crate) fn add_done(completed: &mut Vec<usize>, history: &mut Vec<Done>, cache: u8, done: Option<Done>)
+/// Adds a completed operation to the history, for which room was made, and counts it for its cache.
+fn add_completed(
+    completed: &mut Vec<usize>,
+    history: &mut Vec<Done>,
+    cache: u8,
+    op: &Op,
+    answer: u64,
+)
     requires room { vec_len history.old < vec_capacity history.old }
     requires place { cache < vec_len completed.old }
-    requires own { (d : Done) → done ≡ Some d → d.cache ≡ cache }
     requires counted { AreCounts (vec_len completed.old) completed.old.items history.old.items }
-    ensures history { history.new.items ≡ history.old.items ++ option_to_list done }
+    ensures history { history.new.items ≡ history.old.items ++ record { cache = cache; op = op.now; answer = answer } ∷ [] }
     ensures counted { AreCounts (vec_len completed.old) completed.new.items history.new.items }
     ensures len { vec_len completed.new ≡ vec_len completed.old }
 {
-    let Some(done) = done else {
-        return;
-    };
     completed[cache as usize] += 1;
+    let done = Done {
+        cache,
+        op: *op,
+        answer,
+    };
     match history.push(done) {
         Ok(()) => (),
         Err(_) => unreachable!(),
+    }
+}
+
+/// Adds the operation that has completed, if any, to the history, and counts it. Room was made.
+pub(crate) fn add_done(
+    completed: &mut Vec<usize>,
+    history: &mut Vec<Done>,
+    cache: u8,
+    done: &Option<Done>,
+)
+    requires room { vec_len history.old < vec_capacity history.old }
+    requires place { cache < vec_len completed.old }
+    requires own { (d : Done) → done.now ≡ Some d → d.cache ≡ cache }
+    requires counted { AreCounts (vec_len completed.old) completed.old.items history.old.items }
+    ensures history { history.new.items ≡ history.old.items ++ option_to_list done.now }
+    ensures counted { AreCounts (vec_len completed.old) completed.new.items history.new.items }
+    ensures len { vec_len completed.new ≡ vec_len completed.old }
+{
+    if let Some(done) = done {
+        add_completed(completed, history, cache, &done.op, done.answer);
     }
 }
 
@@ -159,7 +185,7 @@ fn send_one(commands: &mut Channels, memout: &mut Channels, message: &Message)
 pub(crate) fn send_all(commands: &mut Channels, memout: &mut Channels, sent: &[Message])
     requires commands_room { (c : ℕ) → c < commands.old.config.caches → length sent.now ≤ room commands.old c }
     requires memout_room { length sent.now ≤ room memout.old 0 }
-    requires within { EachWithin commands.old.config sent.now }
+    requires within { All (IsOutward commands.old.config) sent.now }
     requires same { memout.old.config ≡ commands.old.config }
     ensures commands { queue commands.new ≡ commands_with sent.now (queue commands.old) }
     ensures memout { queue memout.new 0 ≡ memout_with sent.now (queue memout.old 0) }

@@ -4,7 +4,7 @@ use Rattle.bk_msg.specs.declared.row.Row.{Row}
 use Rattle.bk_base.specs.Tables.{put}
 use Rattle.bk_system.specs.Queues.{EachWithin}
 use Rattle.bk_system.specs.Channels.{queue}
-use Rattle.bk_system.proofs.Queues.{queue-set, queue-item, front-first, within-set, within-item, within-rest}
+use Rattle.bk_system.proofs.Queues.{queue-set, queue-at, queue-item, front-first, within-set, within-item, within-rest}
 use Rattle.bk_system.proofs.channels.Channels.pop.Goals as goal
 
 pub invariant_of-self : goal.invariant_of-self
@@ -27,3 +27,8 @@ returns-clause-rest c =
     let was = queue-item c.args.self.now c.args.channel c.index_mut-queue.result.now c.requires c.index_mut-queue.ensures.value in
     queue-set c.args.self.now _ c.args.channel c.pop_front.new.self refl c.requires
     ∙ ap (put (queue c.args.self.now) c.args.channel) (c.pop_front.ensures.rest ∙ ap (drop 1) (sym was))
+
+pub returns-clause-own : goal.returns-clause-own
+returns-clause-own c =
+    let was = queue-item c.args.self.now c.args.channel c.index_mut-queue.result.now c.requires c.index_mut-queue.ensures.value in
+    queue-at c.args.self.now _ c.args.channel c.pop_front.new.self refl c.requires ∙ c.pop_front.ensures.rest ∙ ap (drop 1) (sym was)

@@ -5,7 +5,7 @@ use Rattle.bk_msg.specs.declared.row.Row.{Row}
 use Rattle.bk_base.specs.Tables.{put}
 use Rattle.bk_system.specs.Queues.{EachWithin}
 use Rattle.bk_system.specs.Channels.{queue, room}
-use Rattle.bk_system.proofs.Queues.{queue-set, queue-item, room-item, room-there, room-changed, within-set, within-item, within-append}
+use Rattle.bk_system.proofs.Queues.{queue-set, queue-at, queue-item, room-item, room-there, room-changed, within-set, within-item, within-append}
 use Rattle.bk_system.proofs.channels.Channels.push.Goals as goal
 
 pub index_mut-queue-requires : goal.index_mut-queue-requires
@@ -33,6 +33,12 @@ returns-clause-queue c =
     let was = queue-item c.args.self.now c.args.channel c.index_mut-queue.result.now there c.index_mut-queue.ensures.value in
     queue-set c.args.self.now _ c.args.channel c.push_back_reserved.new.self refl there
     ∙ ap (put (queue c.args.self.now) c.args.channel) (c.push_back_reserved.ensures.items ∙ ap (λ (ms : List Row). ms ++ c.args.message.now ∷ []) (sym was))
+
+pub returns-clause-own : goal.returns-clause-own
+returns-clause-own c =
+    let there = room-there c.args.self.now c.args.channel c.requires.room in
+    let was = queue-item c.args.self.now c.args.channel c.index_mut-queue.result.now there c.index_mut-queue.ensures.value in
+    queue-at c.args.self.now _ c.args.channel c.push_back_reserved.new.self refl there ∙ c.push_back_reserved.ensures.items ∙ ap (λ (ms : List Row). ms ++ c.args.message.now ∷ []) (sym was)
 
 pub returns-clause-room : goal.returns-clause-room
 returns-clause-room c = λ j.
