@@ -1,4 +1,6 @@
+pub mod Ages
 pub mod Dropped
 pub mod Proper
 pub mod Recent
+pub mod Unused
 pub mod Written

@@ -29,3 +29,11 @@ has (v ∷ vs) w = v == w || has vs w
 -- each way of the cache stands in the list of each set
 abbrev pub AreComplete : Shape → List (ArrayVec ℕ) → Type 0
 AreComplete k xs = (s w : ℕ) → w < k.ways → has (recency_of k.ways xs s) w ≡ true
+
+-- no line was ever written
+abbrev pub AreOpening : List Line → Type 0
+AreOpening xs = (s w : ℕ) → lines_of xs s w ≡ empty_line
+
+-- each set has its ways in the order of their numbers
+abbrev pub AreOrdered : ℕ → List (ArrayVec ℕ) → Type 0
+AreOrdered ways xs = (s : ℕ) → recency_of ways xs s ≡ ways_in_order ways

@@ -2,6 +2,7 @@
 #![tactic(auto)]
 
 mod arrays;
+mod cache;
 mod calls;
 mod comes;
 mod commands;
@@ -9,9 +10,12 @@ mod grants;
 mod issue;
 mod line;
 mod looks;
+mod opening;
 mod places;
 mod policy;
+mod views;
 
 pub use arrays::CacheArrays;
+pub use cache::{Cache, address_of};
 pub use line::{Busy, Foreign, InProgress, Line, Step, WayView};
-pub use policy::Victim;
+pub use policy::{Victim, oldest};
