@@ -1,5 +1,3 @@
-pub mod Operands
 pub mod Outward
-pub mod Profile
 pub mod Sound
 pub mod Wiping

@@ -1,7 +1,6 @@
 -- An instruction leaves the engine's head and request of the configuration.
-use Rattle.std.proofs.Common.{◌≡◌, ℕ, ◌<◌, Option, Some, None, refl, subst}
+use Rattle.std.proofs.Common.{◌≡◌, ℕ, ◌<◌, Option, Some, None, refl, subst, sym}
 use Rattle.std.specs.Prelude.{length}
-use Rattle.bk_base.specs.Places.{Shape, InProfile}
 use Rattle.bk_isa.specs.declared.form.Form.{Form}
 use Rattle.bk_isa.specs.declared.form.Form.TheVariants.{Fin, Wfq, Popq, Defer, Mova, Movs, Movw}
 use Rattle.bk_msg.specs.declared.row.Row.{Row}
@@ -16,7 +15,6 @@ use Rattle.bk_engine.specs.Heads.{request_of}
 use Rattle.bk_engine.specs.Kept.{IsHead, IsSound}
 use Rattle.bk_engine.specs.Changes.{reads_request, took, popped, waited, core_changed, core_after, next_place}
 use Rattle.bk_engine.specs.Sends.{sends}
-use Rattle.bk_engine.proofs.Profile.{some_ways}
 
 pub sound_new : (k : Shape) → IsSound k new_core
 sound_new k = record { head = λ h i. absurd (cc); held = λ h i. absurd (cc) }
@@ -74,12 +72,10 @@ changed-sound k e sent (Movs a) choice o few l w b = read-sound k e e.held (Movs
 changed-sound k e sent (Movw a) choice o few l w b = read-sound k e e.held (Movw a) b
 changed-sound k e sent f choice o few l w b = record { head = b.head; held = b.held }
 
--- the place is neither head nor request
-placed-sound : (k : Shape) (e : Core) (place : ℕ) → IsSound k e → IsSound k (record e { place = place })
-placed-sound k e place b = record { head = b.head; held = b.held }
-
-pub sound_after : (k : Shape) (n : EngineState) (f : Form) (choice : Choice) (o : Option Row)
-  → InProfile k → choice.source < k.caches → ((m : Row) → o ≡ Some m → IsWithin k m) → IsSound k n.core → IsSound k (core_after k n f choice o)
-sound_after k n f choice o p l w b =
-    placed-sound k (core_changed n.core (length (sends k n f)) f choice o) (next_place k n f)
-      (changed-sound k n.core (length (sends k n f)) f choice o (some_ways k p) l w b)
+-- so does the whole instruction: the place is neither head nor request
+pub sound_after : (k : Shape) (e after : Core) (sent : ℕ) (f : Form) (choice : Choice) (o : Option Row) (place : ℕ)
+  → 0 < k.ways → choice.source < k.caches → ((m : Row) → o ≡ Some m → IsWithin k m) → IsSound k e → after ≡ core_changed e sent f choice o
+  → IsSound k (record after { place = place })
+sound_after k e after sent f choice o place few l w b e' =
+    let s = subst (λ (x : Core). IsSound k x) (sym e') (changed-sound k e sent f choice o few l w b) in
+    record { head = s.head; held = s.held }

@@ -1,4 +1,4 @@
-ghost use Rattle.std.specs.Prelude.{◌≡◌};
+ghost use Rattle.std.specs.Prelude.{◌≡◌, ◌<◌};
 ghost use Rattle.bk_engine.specs.Kept.{IsSound, IsSound-prop};
 
 use crate::parts::{Choice, Core};
@@ -33,10 +33,11 @@ pub struct Engine {
     directory: Directory,
     ghost sound: { IsSound config core } by { IsSound-prop config core },
     ghost same: { directory.config ≡ config },
+    ghost some_ways: { 0 < config.ways },
 }
 
 impl Engine {
-    ghost use Rattle.std.specs.Prelude.{ℕ, ◌<◌, ◌≤◌, IfOk, Some, length};
+    ghost use Rattle.std.specs.Prelude.{ℕ, ◌≤◌, IfOk, Some, length};
     ghost use Rattle.std.specs.Option.{option_copied};
     ghost use Rattle.bk_msg.specs.declared.row.Row.{Row};
     ghost use Rattle.bk_msg.specs.Within.{IsWithin};

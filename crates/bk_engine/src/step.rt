@@ -74,7 +74,11 @@ fn run_form(
     requires form { Operands form }
     requires states { HasStates form }
     requires place { core.old.place < 256 }
+    requires ways { 0 < config.ways }
+    requires source { choice.source < config.caches }
+    requires within { (m : Row) → option_copied message ≡ Some m → IsWithin config m }
     ensures answers { Answers (ran config (record { core = core.old; directory = contents_of directory.old }) form choice (option_copied message.entry)) (record { core = core.new; directory = contents_of directory.new }) result }
+    ensures sound { IsSound config core.new }
     ensures sends { SendsWithin config result }
     ensures pops { PopsWithin config result }
     ensures config { directory.new.config ≡ config }
@@ -100,6 +104,7 @@ pub(crate) fn run(
     requires few { length program.now ≤ 256 }
     requires config { directory.old.config ≡ config }
     requires sound { IsSound config core.old }
+    requires ways { 0 < config.ways }
     requires source { choice.source < config.caches }
     requires within { (m : Row) → option_copied message ≡ Some m → IsWithin config m }
     requires runs { stop_of config (record { core = core.old; directory = contents_of directory.old }) program.now choice (option_copied message) ≡ None }
