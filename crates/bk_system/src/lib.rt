@@ -2,11 +2,15 @@
 #![tactic(auto)]
 
 mod bounds;
+mod caches;
 mod channels;
 mod event;
+mod hardware;
 mod heads;
 mod memory;
 mod sending;
+mod steps;
 
 pub use event::{Event, Group, Stepped};
+pub use hardware::Hardware;
 pub use memory::MainMemory;
