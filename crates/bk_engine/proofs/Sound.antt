@@ -1,6 +1,7 @@
 -- An instruction leaves the engine's head and request of the configuration.
 use Rattle.std.proofs.Common.{◌≡◌, ℕ, ◌<◌, Option, Some, None, refl, subst, sym}
 use Rattle.std.specs.Prelude.{length}
+use Rattle.bk_base.specs.Places.{Shape}
 use Rattle.bk_isa.specs.declared.form.Form.{Form}
 use Rattle.bk_isa.specs.declared.form.Form.TheVariants.{Fin, Wfq, Popq, Defer, Mova, Movs, Movw}
 use Rattle.bk_msg.specs.declared.row.Row.{Row}
