@@ -76,3 +76,12 @@ fill-sent q new c sent m from to way state addr words es em l r e =
     ∙ ap (λ (ms : List Row). put (fills_of q) to (put (fills_of q to) c (ms ++ m ∷ []))) (sym (fills-at q to c r l))
     ∙ subst (λ (x : Row). put (fills_of q) to (put (fills_of q to) c (fills_of q to c ++ x ∷ [])) ≡ fills_with c (Some x) (fills_of q)) (sym em) refl
     ∙ ap (λ (o : Option Row). fills_with c o (fills_of q)) (sym es)
+
+-- where all channels are empty
+pub fills-none : fills_of (λ c. []) ≡ λ to from. []
+unfolding fills_of
+fills-none = fun_ext (λ a. fun_ext (λ b. either (nat_lt a 8 && nat_lt b 8) []))
+  where
+    either : (b : Bool) (ms : List Row) → (if b then ms else ms) ≡ ms
+    either true ms = refl
+    either false ms = refl

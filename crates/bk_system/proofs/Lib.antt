@@ -1,3 +1,5 @@
+pub mod Banks
+pub mod CacheRows
 pub mod Entries
 pub mod Fills
 pub mod Queues

@@ -68,6 +68,7 @@ impl Channels {
         ensures head { result ≡ slice_get (queue self.old channel) 0 }
         ensures rest { queue self.new ≡ put (queue self.old) channel (drop 1 (queue self.old channel)) }
         ensures own { queue self.new channel ≡ drop 1 (queue self.old channel) }
+        ensures grows { (c : ℕ) → room self.old c ≤ room self.new c }
         ensures count { channel_count self.new ≡ channel_count self.old }
         ensures config { self.new.config ≡ self.old.config }
     {
