@@ -4,4 +4,5 @@ pub mod CacheState
 pub mod CacheTable
 pub mod Calls
 pub mod Kept
+pub mod Laws
 pub mod Policies

@@ -10,6 +10,7 @@ mod grants;
 mod issue;
 mod line;
 mod looks;
+mod meaning;
 mod opening;
 mod places;
 mod policy;
@@ -18,4 +19,8 @@ mod views;
 pub use arrays::CacheArrays;
 pub use cache::{Cache, address_of};
 pub use line::{Busy, Foreign, InProgress, Line, Step, WayView};
+pub use meaning::laws;
 pub use policy::{Victim, oldest};
+
+#[cfg(test)]
+mod tests;
