@@ -188,6 +188,9 @@ fn text_of(rt: &HostRuntime, word: u64) -> Result<Option<Vec<u8>>, Fail> {
 fn a_branch_out_of_the_image(rt: HostRuntime) -> Result<(), Fail> {
     let text = text_of(&rt, 0x2000_0000_0000_0005)?;
     assert!(rt; matches!(&text, Some(text) if text.as_slice() == "  bi L005\n".as_bytes()));
-    assert_eq!(rt; text.and_then(|text| fault_of(&rt, &text)), Some([1, 6, 26]));
+    assert_eq!(rt;
+        text.and_then(|text| fault_of(&rt, &text)),
+        Some([1, 6, 26])
+    );
     Ok(())
 }

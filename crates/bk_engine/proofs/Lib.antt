@@ -1,3 +1,4 @@
+pub mod InstructionLaws
 pub mod Outward
 pub mod Sound
 pub mod Wiping

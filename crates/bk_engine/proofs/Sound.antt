@@ -1,6 +1,5 @@
 -- An instruction leaves the engine's head and request of the configuration.
 use Rattle.std.proofs.Common.{◌≡◌, ℕ, ◌<◌, Option, Some, None, refl, subst, sym}
-use Rattle.std.specs.Prelude.{length}
 use Rattle.bk_base.specs.Places.{Shape}
 use Rattle.bk_isa.specs.declared.form.Form.{Form}
 use Rattle.bk_isa.specs.declared.form.Form.TheVariants.{Fin, Wfq, Popq, Defer, Mova, Movs, Movw}
@@ -11,11 +10,10 @@ use Rattle.bk_engine.specs.declared.parts.Choice.{Choice}
 use Rattle.bk_engine.specs.declared.parts.Core.{Core}
 use Rattle.bk_engine.specs.declared.parts.Head.{Head}
 use Rattle.bk_engine.specs.declared.parts.Held.{Held}
-use Rattle.bk_engine.specs.Core.{EngineState, new_core}
+use Rattle.bk_engine.specs.Core.{new_core}
 use Rattle.bk_engine.specs.Heads.{request_of}
 use Rattle.bk_engine.specs.Kept.{IsHead, IsSound}
-use Rattle.bk_engine.specs.Changes.{reads_request, took, popped, waited, core_changed, core_after, next_place}
-use Rattle.bk_engine.specs.Sends.{sends}
+use Rattle.bk_engine.specs.Changes.{reads_request, took, popped, waited, core_changed}
 
 pub sound_new : (k : Shape) → IsSound k new_core
 sound_new k = record { head = λ h i. absurd (cc); held = λ h i. absurd (cc) }
@@ -44,11 +42,11 @@ popped-sound k e None few i b = b
 popped-sound k e (Some head) few i b =
     let h = b.head head i in
     took-sound k (record e { head = None }) (request_of head.choice.source head.message) head.message
-      (record { head = λ h j. absurd (cc); held = b.held })
-      (λ r j. request-way k head.choice.source head.message r few h.source h.within j)
+    (record { head = λ h j. absurd (cc); held = b.held })
+    (λ r j. request-way k head.choice.source head.message r few h.source h.within j)
 
 waited-sound : (k : Shape) (e : Core) (choice : Choice) (o : Option Row) → choice.source < k.caches → ((m : Row) → o ≡ Some m → IsWithin k m) → IsSound k e
-  → IsSound k (waited e choice o)
+    → IsSound k (waited e choice o)
 waited-sound k e choice None l w b = b
 waited-sound k e choice (Some m) l w b = record {
   head = λ h i. let same : record { choice = choice; message = m } ≡ h = cc in subst (λ (x : Head). IsHead k x) same (record { source = l; within = w m refl });
@@ -63,7 +61,7 @@ read-sound k e (Some held) (Movw a) b = record { head = b.head; held = b.held }
 read-sound k e (Some held) f b = b
 
 changed-sound : (k : Shape) (e : Core) (sent : ℕ) (f : Form) (choice : Choice) (o : Option Row)
-  → 0 < k.ways → choice.source < k.caches → ((m : Row) → o ≡ Some m → IsWithin k m) → IsSound k e → IsSound k (core_changed e sent f choice o)
+    → 0 < k.ways → choice.source < k.caches → ((m : Row) → o ≡ Some m → IsWithin k m) → IsSound k e → IsSound k (core_changed e sent f choice o)
 changed-sound k e sent (Wfq _) choice o few l w b = waited-sound k e choice o l w b
 changed-sound k e sent (Popq _) choice o few l w b = popped-sound k e e.head few refl b
 changed-sound k e sent Defer choice o few l w b = record { head = λ h i. absurd (cc); held = b.held }
@@ -75,8 +73,8 @@ changed-sound k e sent f choice o few l w b = record { head = b.head; held = b.h
 
 -- so does the whole instruction: the place is neither head nor request
 pub sound_after : (k : Shape) (e after : Core) (sent : ℕ) (f : Form) (choice : Choice) (o : Option Row) (place : ℕ)
-  → 0 < k.ways → choice.source < k.caches → ((m : Row) → o ≡ Some m → IsWithin k m) → IsSound k e → after ≡ core_changed e sent f choice o
-  → IsSound k (record after { place = place })
+    → 0 < k.ways → choice.source < k.caches → ((m : Row) → o ≡ Some m → IsWithin k m) → IsSound k e → after ≡ core_changed e sent f choice o
+    → IsSound k (record after { place = place })
 sound_after k e after sent f choice o place few l w b e' =
     let s = subst (λ (x : Core). IsSound k x) (sym e') (changed-sound k e sent f choice o few l w b) in
     record { head = s.head; held = s.held }

@@ -3,6 +3,7 @@ pub mod Core
 pub mod Engines
 pub mod Heads
 pub mod Kept
+pub mod Laws
 pub mod Outward
 pub mod Ranges
 pub mod Reads

@@ -8,7 +8,7 @@ ghost use Rattle.bk_engine.specs.Kept.{IsSound};
 ghost use Rattle.bk_engine.specs.Changes.{wiped, invalidates, state_written, named_written, directory_for, directory_held, message_marked, head_marked, directory_after};
 ghost use Rattle.bk_engine.specs.Wiping.{ways_wiped};
 
-use crate::heads::{NULL_WB, INV_ACK, REQUEST, head_number};
+use crate::heads::{INV_ACK, NULL_WB, REQUEST, head_number};
 use crate::parts::{Core, Head, Held};
 use crate::reads::summary_for;
 use crate::sends::is_invalidated;

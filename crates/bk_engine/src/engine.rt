@@ -67,12 +67,7 @@ impl Engine {
 
     /// Runs the instruction at the engine's place, or answers why it doesn't run. `head` is the head of the channel that the
     /// choice names, where it has one; `wfq` alone looks at it.
-    pub fn step(
-        &mut self,
-        program: &[Instr],
-        choice: Choice,
-        head: Option<&Message>,
-    ) -> EngineStep
+    pub fn step(&mut self, program: &[Instr], choice: Choice, head: Option<&Message>) -> EngineStep
         requires few { length program.now ≤ 256 }
         requires source { choice.source < self.old.config.caches }
         requires within { (m : Row) → option_copied head ≡ Some m → IsWithin self.old.config m }
@@ -132,5 +127,13 @@ impl Engine {
         ensures config { result.now.config ≡ self.now.config }
     {
         &self.directory
+    }
+
+    /// Whether a way group is pending: a transaction of it is in progress.
+    pub fn pending(&self, set: u8) -> bool
+        requires { set < self.now.config.sets }
+        ensures { result ≡ (state_of self.now).directory.pending set }
+    {
+        self.directory.pending(set)
     }
 }

@@ -5,6 +5,7 @@ mod changes;
 mod directory;
 mod engine;
 mod heads;
+pub mod laws;
 mod parts;
 mod reads;
 mod registers;
@@ -13,6 +14,9 @@ mod step;
 mod stop;
 
 pub use engine::{Engine, EngineStep};
-pub use heads::{head_number, names_class};
+pub use heads::{COH_ACK, REQUEST, head_number, names_class};
 pub use parts::{Choice, Core, Head, Held, Kept, RequestKind};
 pub use stop::{Halt, Stop};
+
+#[cfg(test)]
+mod tests;

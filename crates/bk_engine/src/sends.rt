@@ -136,13 +136,7 @@ fn grants(held: &Held, state: Coh, got: &Option<[u64; 8]>) -> Sent
 {
     match got {
         None => no_message(),
-        Some(words) => one_message(Message::blk(
-            held.source,
-            held.way,
-            state,
-            held.addr,
-            *words,
-        )),
+        Some(words) => one_message(Message::blk(held.source, held.way, state, held.addr, *words)),
     }
 }
 

@@ -1,14 +1,12 @@
 -- Lines that are dropped one after the other.
-use Rattle.std.proofs.Common.{◌≡◌, ℕ, ◌+◌, ◌<◌, ◌≤◌, ◌≢◌, nat_lt, Bool, true, false, cond, if◌then◌else◌, List, refl, ap, ◌∙◌, sym, arith}
-use Rattle.std.proofs.lemmas.Bool.{cases_eq}
+use Rattle.std.proofs.Common.{◌≡◌, ℕ, ◌+◌, nat_lt, if◌then◌else◌, List, ap, ◌∙◌, arith}
 use Rattle.std.proofs.lemmas.Bool.Decides.{nat_tests}
 use mathlib.Core.Path.{fun_ext}
-use Rattle.bk_base.specs.Places.{group_of, tag_at, Shape}
 use Rattle.bk_base.specs.Tables.{put}
 use Rattle.bk_lce.specs.declared.line.Line.{Line}
 use Rattle.bk_lce.specs.declared.arrays.CacheArrays.{CacheArrays}
 use Rattle.bk_lce.specs.CacheState.{CacheState, with_line}
-use Rattle.bk_lce.specs.CacheTable.{wiped, invalidated}
+use Rattle.bk_lce.specs.CacheTable.{wiped}
 use Rattle.bk_lce.specs.Caches.{state_of}
 use Rattle.bk_lce.specs.Kept.{lines_of}
 
@@ -27,7 +25,7 @@ none_yet f tag v = grind (arith, nat_tests)
 pub dropped_none : (s tag : ℕ) (n : CacheState) → dropped_below 0 s tag n ≡ n
 dropped_none s tag n =
     ap (λ (f : ℕ → ℕ → Line). record n { lines = f })
-        (ap (put n.lines s) (fun_ext (λ v. none_yet (n.lines s) tag v)) ∙ fun_ext (λ i. put_itself n.lines s i))
+    (ap (put n.lines s) (fun_ext (λ v. none_yet (n.lines s) tag v)) ∙ fun_ext (λ i. put_itself n.lines s i))
 
 row_more : (f : ℕ → Line) (i tag v : ℕ)
     → put (λ w. if nat_lt w i then wiped tag (f w) else f w) i (wiped tag (if nat_lt i i then wiped tag (f i) else f i)) v
@@ -51,9 +49,9 @@ dropped_more i s tag n =
     let next : ℕ → Line = λ w. if nat_lt w (i + 1) then wiped tag (n.lines s w) else n.lines s w in
     let at : put n.lines s row s ≡ row = put_at n.lines s row in
     let written : put (put n.lines s row s) i (wiped tag (put n.lines s row s i)) ≡ next =
-        ap (λ (r : ℕ → Line). put r i (wiped tag (r i))) at ∙ fun_ext (λ v. row_more (n.lines s) i tag v) in
+    ap (λ (r : ℕ → Line). put r i (wiped tag (r i))) at ∙ fun_ext (λ v. row_more (n.lines s) i tag v) in
     ap (λ (f : ℕ → ℕ → Line). record n { lines = f })
-        (fun_ext (λ j. put_twice n.lines s row (put (put n.lines s row s) i (wiped tag (put n.lines s row s i))) j) ∙ ap (put n.lines s) written)
+    (fun_ext (λ j. put_twice n.lines s row (put (put n.lines s row s) i (wiped tag (put n.lines s row s i))) j) ∙ ap (put n.lines s) written)
 
 past_eight : (xs : List Line) (s tag w : ℕ)
     → (if nat_lt w 8 then wiped tag (lines_of xs s w) else lines_of xs s w) ≡ wiped tag (lines_of xs s w)

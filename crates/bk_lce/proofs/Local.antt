@@ -1,13 +1,11 @@
 -- A row changes at most the set of the block that it is about.
-use Rattle.std.proofs.Common.{◌≡◌, ◌≢◌, ◌⊎◌, ℕ, ◌+◌, Bool, true, false, ◌&&◌, ◌==◌, if◌then◌else◌, List, slice_index, Option, Some, None, refl, sym, ap, subst, ◌∙◌, inl, inr, arith}
-use Rattle.std.proofs.lemmas.Bool.{cases_eq}
+use Rattle.std.proofs.Common.{◌≡◌, ◌≢◌, ◌⊎◌, ℕ, Bool, true, false, ◌&&◌, ◌==◌, if◌then◌else◌, List, slice_index, Option, Some, None, refl, sym, ap, subst, ◌∙◌, inl, inr, arith}
 use Rattle.std.proofs.lemmas.Bool.Decides.{nat_tests}
 use Rattle.std.proofs.lemmas.Option.{same_Some}
 use Rattle.bk_base.specs.Places.{Shape, block_of, block_start, word_of, group_of, set_of, tag_at}
-use Rattle.bk_base.specs.States.{is_dirty, is_writable}
+use Rattle.bk_base.specs.States.{is_writable}
 use Rattle.bk_base.specs.Tables.{put}
 use Rattle.bk_base.specs.declared.coh.Coh.{Coh}
-use Rattle.bk_base.specs.declared.coh.Coh.TheVariants.{M}
 use Rattle.bk_base.specs.declared.op.Op.{Op}
 use Rattle.bk_base.specs.declared.op.Op.TheVariants.{Load, Store, UcLoad, UcStore, Evict}
 use Rattle.bk_msg.specs.declared.row.Row.{Row}
@@ -18,7 +16,7 @@ use Rattle.bk_lce.specs.declared.line.Line.{Line}
 use Rattle.bk_lce.specs.declared.line.InProgress.{InProgress}
 use Rattle.bk_lce.specs.Asked.{address_of}
 use Rattle.bk_lce.specs.CacheState.{CacheState, found, holds, line_at, with_line, used}
-use Rattle.bk_lce.specs.CacheTable.{Taken, asks, hits, stored, answers, invalidated, lowered, completes, fills, load_row, store_hit, store_row, evict_row, if_idle, issue_row, issue, flush_answer, flush_row, transfer_row, grant_row, granted, wake_row, woken, word_row, written_row, evicted_row, ends, command, fill}
+use Rattle.bk_lce.specs.CacheTable.{Taken, asks, stored, invalidated, completes, fills, load_row, store_hit, store_row, evict_row, if_idle, issue_row, issue, flush_row, transfer_row, grant_row, granted, wake_row, woken, word_row, written_row, evicted_row, ends, command, fill}
 use Rattle.bk_lce.specs.Laws.{IsAsItWas, KeepsOthers, IsWrittenAtOnce, StoresSoleCopies, TouchesOneSet}
 
 -- ---- one set written
@@ -96,7 +94,7 @@ module _ (k : Shape) (n : CacheState) (c : ℕ) where
   store_local addr value way None = λ s d. untouched n _ s
   store_local addr value way (Some w) =
       if_so (KeepsOthers (group_of k addr) n) (is_writable (line_at k n addr w).state) (store_hit k n c addr value w) (asks n (Store addr value) w (rows.Wr c ENGINE w (block_start addr)))
-          (λ s d. both_other n (group_of k addr) w s _ d) (λ s d. untouched n _ s)
+      (λ s d. both_other n (group_of k addr) w s _ d) (λ s d. untouched n _ s)
 
   evict_local : (addr : ℕ) (at : Option ℕ) → KeepsOthers (group_of k addr) n (evict_row n c addr at)
   evict_local addr None = λ s d. untouched n _ s

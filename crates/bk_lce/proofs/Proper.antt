@@ -1,8 +1,8 @@
 -- What a row sends names caches and ways of the configuration, and what it completes is the cache's own.
-use Rattle.std.proofs.Common.{◌≡◌, ℕ, zero, suc, ◌+◌, ◌<◌, ◌≤◌, Bool, true, false, ◌&&◌, ◌==◌, if◌then◌else◌, List, Option, Some, None, Result, Ok, Err, IfOk, refl, sym, ap, subst, ◌∙◌, arith}
+use Rattle.std.proofs.Common.{◌≡◌, ℕ, zero, suc, ◌<◌, Bool, true, false, ◌&&◌, ◌==◌, if◌then◌else◌, List, Option, Some, None, Result, Ok, Err, IfOk, refl, sym, ap, subst, ◌∙◌, arith}
 use Rattle.std.proofs.lemmas.Option.{same_Some}
-use Rattle.bk_base.specs.Places.{Shape, block_of, block_start, word_of, group_of, tag_at}
-use Rattle.bk_base.specs.Counting.{first_below, least_below, or_else}
+use Rattle.bk_base.specs.Places.{Shape, block_of, block_start, group_of, tag_at}
+use Rattle.bk_base.specs.Counting.{least_below, or_else}
 use Rattle.bk_base.specs.States.{is_dirty, is_writable}
 use Rattle.bk_base.specs.declared.coh.Coh.{Coh}
 use Rattle.bk_base.specs.declared.op.Op.{Op}

@@ -1,6 +1,5 @@
 -- Lists of ways: which stand in one after a way came to its front.
-use Rattle.std.proofs.Common.{◌≡◌, ℕ, zero, suc, ◌+◌, ◌<◌, ◌≤◌, ◌≢◌, Bool, true, false, not, ◌||◌, ◌==◌, List, [], ◌∷◌, ◌++◌, length, filter, refl, ap, ◌∙◌, sym, subst, inl, inr, arith, add-one, Bor, MutBor}
-use Rattle.std.proofs.lemmas.Bool.{cases_eq}
+use Rattle.std.proofs.Common.{◌≡◌, ℕ, zero, suc, ◌<◌, ◌≤◌, ◌≢◌, true, not, ◌||◌, ◌==◌, List, [], ◌∷◌, ◌++◌, length, filter, refl, arith}
 use Rattle.std.proofs.lemmas.Bool.Decides.{nat_tests}
 use Rattle.bk_base.specs.Counting.{join_below}
 use Rattle.bk_lce.specs.CacheState.{ways_in_order, to_front}

@@ -1,15 +1,13 @@
 -- Lists that stand for a cache that was never used.
-use Rattle.std.proofs.Common.{◌≡◌, ℕ, zero, suc, ◌+◌, ◌*◌, ◌<◌, ◌≤◌, nat_lt, Bool, true, false, cond, if◌then◌else◌, IsTrue, List, [], ◌∷◌, ◌++◌, length, replicate, slice_index_or, refl, ap, ◌∙◌, sym, subst, inl, inr, arith}
-use Rattle.std.proofs.lemmas.Bool.{cases_eq, cases_lt}
+use Rattle.std.proofs.Common.{◌≡◌, ℕ, zero, suc, ◌≤◌, IsTrue, List, [], ◌∷◌, ◌++◌, replicate, slice_index_or, refl, ap, sym, subst, inl, inr, arith}
+use Rattle.std.proofs.lemmas.Bool.{cases_lt}
 use Rattle.std.proofs.lemmas.Bool.Decides.{nat_tests}
 use Rattle.std.proofs.lemmas.List.{get_or-replicate}
 use Rattle.std.proofs.Math.ListN.{get_or-eq_default, length-replicate}
-use mathlib.Core.Path.{fun_ext}
 use Rattle.arrayvec.specs.ArrayVec.{ArrayVec}
 use Rattle.bk_base.specs.Places.{Shape, is_small_count}
-use Rattle.bk_lce.specs.declared.line.Line.{Line}
 use Rattle.bk_lce.specs.CacheState.{empty_line, ways_in_order}
-use Rattle.bk_lce.specs.Kept.{place_of, lines_of, recency_of, has, AreOpening, AreOrdered, AreComplete}
+use Rattle.bk_lce.specs.Kept.{place_of, lines_of, recency_of, AreOpening, AreOrdered, AreComplete}
 use Rattle.bk_lce.proofs.Recent.{has-in_order}
 
 -- a count from 1 to 8

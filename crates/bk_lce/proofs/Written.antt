@@ -1,5 +1,5 @@
 -- What a list of lines, or of recency, stands for after one of its places is written.
-use Rattle.std.proofs.Common.{◌≡◌, ℕ, ◌+◌, ◌*◌, ◌<◌, ◌≢◌, nat_lt, Bool, true, false, cond, List, length, slice_index_or, slice_set, refl, ap, ◌∙◌, sym, subst, inl, inr, arith, get_or-set_same, get_or-set_other}
+use Rattle.std.proofs.Common.{◌≡◌, ℕ, ◌<◌, List, length, slice_index_or, slice_set, refl, ap, ◌∙◌, subst, inl, inr, arith, get_or-set_same, get_or-set_other}
 use Rattle.std.proofs.lemmas.Bool.{cases_eq, eq-eqb, ne_eqb}
 use Rattle.std.proofs.lemmas.List.{get_or_default}
 use Rattle.std.proofs.lemmas.Bool.Decides.{nat_tests}
@@ -9,7 +9,7 @@ use Rattle.bk_base.specs.Places.{Shape}
 use Rattle.bk_base.specs.Tables.{put}
 use Rattle.bk_lce.specs.declared.line.Line.{Line}
 use Rattle.bk_lce.specs.CacheState.{empty_line, ways_in_order, to_front}
-use Rattle.bk_lce.specs.Kept.{place_of, lines_of, recency_of, has, AreComplete}
+use Rattle.bk_lce.specs.Kept.{place_of, lines_of, recency_of, AreComplete}
 use Rattle.bk_lce.proofs.Recent.{has-to_front}
 
 -- two places are one only where set and way are
@@ -48,9 +48,9 @@ complete_set k xs s w new within e h i v l =
     let is = recency-at k.ways xs s new within i in
     elim (cases_eq i s) [
       | inl same ↦ let is' : recency_of k.ways (slice_set xs s new) i ≡ to_front w (recency_of k.ways xs s) = is ∙ (rw (eq-eqb i s same) e) in
-            rw is' (has-to_front w v (recency_of k.ways xs s) (h s v l))
+          rw is' (has-to_front w v (recency_of k.ways xs s) (h s v l))
       | inr differ ↦ let is' : recency_of k.ways (slice_set xs s new) i ≡ recency_of k.ways xs i = is ∙ (rw (ne_eqb i s differ) refl) in
-            rw is' (h i v l)
+          rw is' (h i v l)
     ]
 
 -- the list that was read at a set is its recency

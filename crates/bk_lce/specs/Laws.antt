@@ -1,5 +1,5 @@
 -- What the table means, in the subject's own words.
-use Rattle.std.specs.Prelude.{◌≡◌, ◌≢◌, ℕ, true, Option, Some}
+use Rattle.std.specs.Prelude.{◌≡◌, ◌≢◌, ℕ, true, Some}
 use Rattle.bk_base.specs.Places.{Shape, group_of}
 use Rattle.bk_base.specs.States.{is_writable}
 use Rattle.bk_base.specs.declared.coh.Coh.TheVariants.{M}
@@ -35,7 +35,7 @@ KeepsOthers set old t = (s : ℕ) → s ≢ set → IsAsItWas old t.state s
 abbrev pub TouchesOneSet : Type 0
 TouchesOneSet = (k : Shape) (n : CacheState) (c : ℕ)
     → record {
-        given : (op : Op) (way : ℕ) (t : Taken) → issue k n c op way ≡ Some t → KeepsOthers (group_of k (address_of op)) n t;
-        commanded : (m : Row) (t : Taken) → command k n c m ≡ Some t → KeepsOthers (group_of k (about m)) n t;
-        filled : (m : Row) (t : Taken) → fill k n c m ≡ Some t → KeepsOthers (group_of k (about m)) n t;
-      }
+      given : (op : Op) (way : ℕ) (t : Taken) → issue k n c op way ≡ Some t → KeepsOthers (group_of k (address_of op)) n t;
+      commanded : (m : Row) (t : Taken) → command k n c m ≡ Some t → KeepsOthers (group_of k (about m)) n t;
+      filled : (m : Row) (t : Taken) → fill k n c m ≡ Some t → KeepsOthers (group_of k (about m)) n t;
+    }

@@ -37,7 +37,12 @@ pub struct Cache<F> {
 
 impl<F: Fn(&[WayView]) -> u8 + Copy + Send> Cache<F> {
     /// A cache that was never used, with its number and its policy. It is an error where memory runs out.
-    pub fn make(alloc: Global, config: Config, number: u8, victim: Victim<F>) -> Result<Cache<F>, AllocError>
+    pub fn make(
+        alloc: Global,
+        config: Config,
+        number: u8,
+        victim: Victim<F>,
+    ) -> Result<Cache<F>, AllocError>
         requires { number < config.caches }
         ensures state { IfOk result (λ cache. state_of cache.arrays ≡ opening config) }
         ensures config { IfOk result (λ cache. cache.arrays.config ≡ config) }

@@ -88,7 +88,12 @@ impl CacheArrays {
     }
 
     /// `StWb`: the copy at a way takes a state, and is sent where it is dirty.
-    pub(crate) fn flush_row(&mut self, addr: Addr, state: Coh, at: Option<u8>) -> Result<Step, Foreign>
+    pub(crate) fn flush_row(
+        &mut self,
+        addr: Addr,
+        state: Coh,
+        at: Option<u8>,
+    ) -> Result<Step, Foreign>
         requires { IfSome at (λ w. w < self.old.config.ways) }
         ensures gives { Gives (flush_row self.old.config (state_of self.old) self.old.number addr state at) (state_of self.old) (state_of self.new) result }
         ensures config { self.new.config ≡ self.old.config }
@@ -130,7 +135,14 @@ impl CacheArrays {
                 }
                 let words = self.line_at(addr, at).words;
                 self.lower(addr, at, state);
-                Ok(self.answers(Message::fill(self.number, peer, peer_way, peer_state, addr, words)))
+                Ok(self.answers(Message::fill(
+                    self.number,
+                    peer,
+                    peer_way,
+                    peer_state,
+                    addr,
+                    words,
+                )))
             }
         }
     }

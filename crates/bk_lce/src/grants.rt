@@ -44,7 +44,14 @@ impl CacheArrays {
     }
 
     /// `Blk` or `Fill` at the way of the operation in progress: the block is placed.
-    fn grant_row(&mut self, way: u8, state: Coh, addr: Addr, words: [u64; 8], op: Op) -> Result<Step, Foreign>
+    fn grant_row(
+        &mut self,
+        way: u8,
+        state: Coh,
+        addr: Addr,
+        words: [u64; 8],
+        op: Op,
+    ) -> Result<Step, Foreign>
         requires { way < self.old.config.ways }
         ensures gives { Gives (grant_row self.old.config (state_of self.old) self.old.number way state addr words op) (state_of self.old) (state_of self.new) result }
         ensures config { self.new.config ≡ self.old.config }
@@ -117,7 +124,12 @@ impl CacheArrays {
     }
 
     /// `StWake`.
-    pub(crate) fn woken(&mut self, way: u8, addr: Addr, busy: Option<InProgress>) -> Result<Step, Foreign>
+    pub(crate) fn woken(
+        &mut self,
+        way: u8,
+        addr: Addr,
+        busy: Option<InProgress>,
+    ) -> Result<Step, Foreign>
         requires { way < self.old.config.ways }
         ensures gives { Gives (woken self.old.config (state_of self.old) self.old.number way addr busy) (state_of self.old) (state_of self.new) result }
         ensures config { self.new.config ≡ self.old.config }
@@ -190,7 +202,12 @@ impl CacheArrays {
     }
 
     /// `UcBlk`.
-    pub(crate) fn word_comes(&mut self, addr: Addr, word: u64, busy: Option<InProgress>) -> Result<Step, Foreign>
+    pub(crate) fn word_comes(
+        &mut self,
+        addr: Addr,
+        word: u64,
+        busy: Option<InProgress>,
+    ) -> Result<Step, Foreign>
         ensures gives { Gives (ends busy (λ way op. word_row (state_of self.old) self.old.number way addr word op)) (state_of self.old) (state_of self.new) result }
         ensures config { self.new.config ≡ self.old.config }
         ensures number { self.new.number ≡ self.old.number }
@@ -202,7 +219,11 @@ impl CacheArrays {
     }
 
     /// `UcDone`.
-    pub(crate) fn word_is_written(&mut self, addr: Addr, busy: Option<InProgress>) -> Result<Step, Foreign>
+    pub(crate) fn word_is_written(
+        &mut self,
+        addr: Addr,
+        busy: Option<InProgress>,
+    ) -> Result<Step, Foreign>
         ensures gives { Gives (ends busy (λ way op. written_row (state_of self.old) self.old.number way addr op)) (state_of self.old) (state_of self.new) result }
         ensures config { self.new.config ≡ self.old.config }
         ensures number { self.new.number ≡ self.old.number }
@@ -214,7 +235,11 @@ impl CacheArrays {
     }
 
     /// `Done`.
-    pub(crate) fn block_is_evicted(&mut self, addr: Addr, busy: Option<InProgress>) -> Result<Step, Foreign>
+    pub(crate) fn block_is_evicted(
+        &mut self,
+        addr: Addr,
+        busy: Option<InProgress>,
+    ) -> Result<Step, Foreign>
         ensures gives { Gives (ends busy (λ way op. evicted_row (state_of self.old) self.old.number way addr op)) (state_of self.old) (state_of self.new) result }
         ensures config { self.new.config ≡ self.old.config }
         ensures number { self.new.number ≡ self.old.number }

@@ -96,12 +96,20 @@ impl CacheArrays {
         ensures number { self.new.number ≡ self.old.number }
     {
         match at {
-            None => self.asks(Op::Store(addr, value), way, Message::wr(self.number, way, addr)),
+            None => self.asks(
+                Op::Store(addr, value),
+                way,
+                Message::wr(self.number, way, addr),
+            ),
             Some(at) => {
                 if self.line_at(addr, at).state.writable() {
                     self.store_hit(addr, value, at)
                 } else {
-                    self.asks(Op::Store(addr, value), at, Message::wr(self.number, at, addr))
+                    self.asks(
+                        Op::Store(addr, value),
+                        at,
+                        Message::wr(self.number, at, addr),
+                    )
                 }
             }
         }

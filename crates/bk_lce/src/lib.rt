@@ -8,9 +8,9 @@ mod comes;
 mod commands;
 mod grants;
 mod issue;
-mod meaning;
 mod line;
 mod looks;
+mod meaning;
 mod opening;
 mod places;
 mod policy;
@@ -18,6 +18,9 @@ mod views;
 
 pub use arrays::CacheArrays;
 pub use cache::{Cache, address_of};
-pub use meaning::laws;
 pub use line::{Busy, Foreign, InProgress, Line, Step, WayView};
+pub use meaning::laws;
 pub use policy::{Victim, oldest};
+
+#[cfg(test)]
+mod tests;

@@ -145,7 +145,12 @@ impl CacheArrays {
             Row::Inv { .. } => true,
             Row::StWb { addr, .. } => can_flush(self.found(addr)),
             Row::StTr { peer, addr, .. } => can_transfer(self.number, peer, self.found(addr)),
-            Row::Blk { way, state, addr, .. } => can_grant(way, state, addr, self.in_progress()),
+            Row::Blk {
+                way,
+                state,
+                addr,
+                ..
+            } => can_grant(way, state, addr, self.in_progress()),
             Row::StWake { way, addr, .. } => self.can_wake(way, addr, self.in_progress()),
             Row::UcBlk { addr, .. } => can_take_word(addr, self.in_progress()),
             Row::UcDone { addr, .. } => can_be_written(addr, self.in_progress()),
@@ -159,7 +164,12 @@ impl CacheArrays {
         ensures { result ≡ is_some (fill self.now.config (state_of self.now) self.now.number message.now) }
     {
         match message.row() {
-            Row::Fill { way, state, addr, .. } => can_grant(way, state, addr, self.in_progress()),
+            Row::Fill {
+                way,
+                state,
+                addr,
+                ..
+            } => can_grant(way, state, addr, self.in_progress()),
             _ => false,
         }
     }

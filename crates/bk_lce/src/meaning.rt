@@ -5,5 +5,4 @@ ghost use Rattle.bk_lce.specs.Laws.{StoresSoleCopies, TouchesOneSet};
 pub fn laws()
     ensures store { StoresSoleCopies }
     ensures one_set { TouchesOneSet }
-{
-}
+{}

@@ -1,16 +1,20 @@
 -- The channels of one network, one for each number, and the words of a memory, as functions.
-use Rattle.std.specs.Prelude.{ℕ, ◌%◌, ◌==◌, if◌then◌else◌, List, [], slice_get, slice_index, vec_len, unwrap_or, replicate}
-use Rattle.std.specs.Option.{option_map_or}
+use Rattle.std.specs.Prelude.{ℕ, ◌%◌, ◌==◌, if◌then◌else◌, List, slice_index, vec_len, unwrap_or, replicate}
 use Rattle.std.specs.Ordering.{nat_cmp}
 use Rattle.std.specs.BTreeMap.{get}
 use Rattle.bk_base.specs.Places.{block_of, word_of}
 use Rattle.bk_msg.specs.declared.row.Row.{Row}
 use Rattle.bk_system.specs.declared.channels.Channels.{Channels}
 use Rattle.bk_system.specs.declared.memory.MainMemory.{MainMemory}
+use Rattle.bk_system.specs.Queues.{queues_of, rooms_of}
 
 -- what the channel of a number holds, the oldest message first
 unfoldable pub queue : Channels → ℕ → List Row
-queue channels c = option_map_or (λ q. q.items) (slice_get channels.queues.items c) []
+queue channels c = queues_of channels.queues.items c
+
+-- how many more messages the channel of a number takes without memory
+unfoldable pub room : Channels → ℕ → ℕ
+room channels c = rooms_of channels.queues.items c
 
 -- how many channels there are
 abbrev pub channel_count : Channels → ℕ

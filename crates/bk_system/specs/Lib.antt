@@ -1,3 +1,4 @@
+pub mod Banks
 pub mod Channels
 pub mod Counted
 pub mod Events
@@ -5,7 +6,9 @@ pub mod Faults
 pub mod Greedy
 pub mod Kept
 pub mod Memory
+pub mod Queues
 pub mod Report
+pub mod Rooms
 pub mod Runs
 pub mod Serial
 pub mod State

@@ -1,17 +1,20 @@
 -- The state that a system's hardware stands for.
-use Rattle.std.specs.Prelude.{Option, Some, None}
+use Rattle.std.specs.Prelude.{ℕ, Option, Some, None}
+use Rattle.bk_lce.specs.CacheState.{CacheState}
 use Rattle.bk_engine.specs.Engines as engines
+use Rattle.bk_system.specs.declared.caches.Caches.{Caches}
 use Rattle.bk_system.specs.declared.event.Stepped.{Stepped}
 use Rattle.bk_system.specs.declared.event.Stepped.TheVariants.{Disabled, Ran}
 use Rattle.bk_system.specs.declared.hardware.Hardware.{Hardware}
+use Rattle.bk_system.specs.Banks.{states_of}
 use Rattle.bk_system.specs.Channels.{queue, word_at}
 use Rattle.bk_system.specs.State.{State}
 use Rattle.bk_system.specs.Events.{Happening}
-use Rattle.bk_system.specs.Kept.{caches_of, fills_of}
+use Rattle.bk_system.specs.Kept.{fills_of}
 
 abbrev pub state_of : Hardware → State
 state_of y = record {
-  caches = caches_of y.config y.caches.items;
+  caches = states_of y.caches;
   engine = engines.state_of y.engine;
   memory = word_at y.memory;
   request = queue y.requests;

@@ -1,16 +1,23 @@
 //! The whole system: its events, its runs and their reports.
 #![tactic(auto)]
 
+mod bounds;
+mod caches;
 mod channels;
 mod complete;
 mod counts;
-mod engine_channels;
 mod event;
 mod greedy;
+mod happening;
 mod hardware;
+mod heads;
 mod memory;
 mod reports;
+mod rest;
+mod running;
 mod runs;
+mod sending;
+mod steps;
 mod system;
 mod text;
 

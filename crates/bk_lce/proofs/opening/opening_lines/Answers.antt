@@ -9,4 +9,4 @@ use Rattle.bk_lce.proofs.opening.opening_lines.Goals as goal
 pub returns-clause-lines : goal.returns-clause-lines
 returns-clause-lines c =
     IfOk-weaker c.vec.result _ _ (λ v made. subst (λ (xs : List Line). AreOpening xs) (sym (made (λ y same. same))) (opening_lines_are (c.args.sets * 8)))
-        c.vec.ensures.items_if_clones_equal
+    c.vec.ensures.items_if_clones_equal

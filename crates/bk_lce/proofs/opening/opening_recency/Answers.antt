@@ -1,5 +1,5 @@
 -- One set more that has its ways in order.
-use Rattle.std.proofs.Common.{◌≡◌, ℕ, List, sym, subst, arith}
+use Rattle.std.proofs.Common.{ℕ, List, sym, subst, arith}
 use Rattle.arrayvec.specs.ArrayVec.{ArrayVec}
 use Rattle.bk_lce.specs.Kept.{AreOrdered}
 use Rattle.bk_lce.proofs.Unused.{ordered_none, ordered_push}

@@ -1,5 +1,5 @@
 -- After the last way it is the oldest of all.
-use Rattle.std.proofs.Common.{◌≡◌, ◌≤◌, ℕ, length, subst, arith}
+use Rattle.std.proofs.Common.{◌≡◌, ℕ, length, subst, arith}
 use Rattle.bk_lce.proofs.Ages.{IsOldestBelow, oldest_of_all}
 use Rattle.bk_lce.proofs.policy.of_greatest_age.Goals as goal
 

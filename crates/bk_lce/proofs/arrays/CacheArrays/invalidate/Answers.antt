@@ -1,9 +1,9 @@
 -- One way after the other is dropped, and after eight each that holds the block.
-use Rattle.std.proofs.Common.{◌≡◌, ℕ, ◌+◌, ◌≤◌, ◌∙◌, ap, sym, subst, arith, refl}
-use Rattle.bk_base.specs.Places.{Shape, group_of, tag_at}
+use Rattle.std.proofs.Common.{◌≡◌, ℕ, ◌∙◌, ap, sym, arith, refl}
+use Rattle.bk_base.specs.Places.{group_of}
 use Rattle.bk_base.specs.Tables.{put}
 use Rattle.bk_lce.specs.CacheState.{CacheState, with_line}
-use Rattle.bk_lce.specs.CacheTable.{wiped, invalidated}
+use Rattle.bk_lce.specs.CacheTable.{wiped}
 use Rattle.bk_lce.specs.Caches.{state_of}
 use Rattle.bk_lce.proofs.Dropped.{dropped_below, dropped_none, dropped_more, dropped_all}
 use Rattle.bk_lce.proofs.arrays.CacheArrays.invalidate.Goals as goal

@@ -1,4 +1,4 @@
-use Rattle.std.proofs.Common.{◌≡◌, arith, slice_index_or, ◌+◌, ◌*◌}
+use Rattle.std.proofs.Common.{arith}
 use Rattle.std.proofs.lemmas.Grind.{common_steps}
 use Rattle.std.proofs.lemmas.Bool.Decides.{nat_tests}
 use Rattle.bk_lce.specs.Caches.{state_of}
