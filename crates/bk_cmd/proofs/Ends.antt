@@ -3,10 +3,10 @@ use Rattle.std.proofs.Common.{◌≡◌, ℕ, List, Result, Ok, Err, IfErr, inr,
 use Rattle.bk_image.specs.Images as images
 use Rattle.bk_trace.specs.Traces as traces
 use Rattle.bk_lce.specs.declared.line.WayView.{WayView}
-use Rattle.bk_system.specs.declared.runs.RunEnd.{RunEnd}
-use Rattle.bk_system.specs.declared.runs.SerialFault.{SerialFault}
-use Rattle.bk_system.specs.declared.runs.SerialFault.TheVariants.{Spent, Memory}
-use Rattle.bk_system.specs.Faults.{IsFault}
+use Rattle.bk_run.specs.declared.runs.RunEnd.{RunEnd}
+use Rattle.bk_run.specs.declared.runs.SerialFault.{SerialFault}
+use Rattle.bk_run.specs.declared.runs.SerialFault.TheVariants.{Spent, Memory}
+use Rattle.bk_run.specs.Faults.{IsFault}
 use Rattle.bk_cmd.specs.Replays.{budget_for, IsRunFault}
 
 pub fault-of : (policy : List WayView → ℕ → Type 0) (image : images.Parts) (trace : traces.Parts) (fault : SerialFault) → IsFault policy trace.config image.instrs trace.lines (budget_for image trace) fault → IsRunFault policy image trace fault

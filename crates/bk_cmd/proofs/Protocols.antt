@@ -12,9 +12,9 @@ use Rattle.bk_check.proofs.Programs.{mesi, moesif}
 use Rattle.bk_system.specs.declared.event.Event.{Event}
 use Rattle.bk_system.specs.State.{opening}
 use Rattle.bk_system.specs.Runs.{run, is_rested}
-use Rattle.bk_system.specs.Greedy.{IsEnd}
-use Rattle.bk_system.specs.Report.{report_text, counts_of}
-use Rattle.bk_system.proofs.RowOne.{least_events}
+use Rattle.bk_run.specs.Greedy.{IsEnd}
+use Rattle.bk_run.specs.Report.{report_text, counts_of}
+use Rattle.bk_run.proofs.RowOne.{least_events}
 
 two_caches : Shape
 two_caches = record { caches = 2; sets = 4; ways = 2 }

@@ -4,11 +4,11 @@ use Rattle.bk_image.specs.Images as images
 use Rattle.bk_trace.specs.Traces as traces
 use Rattle.bk_lce.specs.declared.line.WayView.{WayView}
 use Rattle.bk_system.specs.declared.event.Event.{Event}
-use Rattle.bk_system.specs.Greedy.{budget_of}
-use Rattle.bk_system.specs.Serial.{IsEnded, IsSpent}
-use Rattle.bk_system.specs.Report.{IsReport}
-use Rattle.bk_system.specs.declared.runs.SerialFault.{SerialFault}
-use Rattle.bk_system.specs.declared.runs.SerialFault.TheVariants.{Spent, Memory}
+use Rattle.bk_run.specs.Greedy.{budget_of}
+use Rattle.bk_run.specs.Serial.{IsEnded, IsSpent}
+use Rattle.bk_run.specs.Report.{IsReport}
+use Rattle.bk_run.specs.declared.runs.SerialFault.{SerialFault}
+use Rattle.bk_run.specs.declared.runs.SerialFault.TheVariants.{Spent, Memory}
 use Rattle.bk_cmd.specs.declared.outcome.Outcome.{Outcome}
 use Rattle.bk_log.specs.Log.{log_of}
 use Rattle.bk_cmd.specs.declared.words.Output.{Output}

@@ -14,7 +14,8 @@ use crate::writing::deliver;
 use bk_lce::{Victim, WayView};
 use bk_log::log;
 use bk_outer::Sink;
-use bk_system::{Event, RunEnd, SerialFault, budget, report, serial};
+use bk_run::{RunEnd, SerialFault, budget, report, serial};
+use bk_system::Event;
 use std::alloc::{AllocError, Global};
 
 /// The texts of a complete run.

@@ -7,9 +7,26 @@ use bk_outer::MemSink;
 use std::alloc::Global;
 use std::test::Fail;
 
+#[derive(Clone, Copy)]
+enum Protocol {
+    Ei,
+    Msi,
+    Mesi,
+    Moesif,
+}
+
+fn image_of(protocol: Protocol) -> &'static [u8] {
+    match protocol {
+        Protocol::Ei => &EI,
+        Protocol::Msi => &MSI,
+        Protocol::Mesi => &MESI,
+        Protocol::Moesif => &MOESIF,
+    }
+}
+
 /// The report of a protocol's run over a trace, as an independent implementation of the rules prints it.
 struct Row {
-    image: &'static [u8],
+    protocol: Protocol,
     trace: &'static str,
     report: &'static str,
 }
@@ -17,7 +34,7 @@ struct Row {
 const ROWS: [Row; 11] = [
     // A load is granted E, and the store needs no message.
     Row {
-        image: &EI,
+        protocol: Protocol::Ei,
         trace: "config 1 1 1\n0 L 0x0\n0 S 0x0 5\n",
         report: "\
 0 L 0x0 = 0
@@ -30,7 +47,7 @@ end rested
     },
     // A block in M is flushed for a load of another cache, and granted in E.
     Row {
-        image: &EI,
+        protocol: Protocol::Ei,
         trace: "config 2 1 1\n0 S 0x0 5\n1 L 0x0\n",
         report: "\
 0 S 0x0 5
@@ -43,7 +60,7 @@ end rested
     },
     // Eight sharers, of which one stores: seven copies are invalidated, and it is woken.
     Row {
-        image: &MSI,
+        protocol: Protocol::Msi,
         trace: "config 8 1 1\n0 L 0x0\n1 L 0x0\n2 L 0x0\n3 L 0x0\n4 L 0x0\n5 L 0x0\n6 L 0x0\n7 L 0x0\n7 S 0x0 9\n",
         report: "\
 0 L 0x0 = 0
@@ -63,7 +80,7 @@ end rested
     },
     // A victim in S is dropped without a message.
     Row {
-        image: &MSI,
+        protocol: Protocol::Msi,
         trace: "config 1 1 1\n0 L 0x0\n0 L 0x40\n",
         report: "\
 0 L 0x0 = 0
@@ -76,7 +93,7 @@ end rested
     },
     // Two operations past the caches: the second request finds its group pending, and is deferred.
     Row {
-        image: &MESI,
+        protocol: Protocol::Mesi,
         trace: "config 2 4 2\n0 US 0x40 7\n1 UL 0x40\n",
         report: "\
 0 US 0x40 7
@@ -88,7 +105,7 @@ end rested
     },
     // The victim is dirty at each later miss.
     Row {
-        image: &MESI,
+        protocol: Protocol::Mesi,
         trace: "config 1 1 1\n0 S 0x0 1\n0 S 0x40 2\n0 L 0x0\n",
         report: "\
 0 S 0x0 1
@@ -102,7 +119,7 @@ end rested
     },
     // A store into E needs no message, and the other load finds M under the directory's E.
     Row {
-        image: &MESI,
+        protocol: Protocol::Mesi,
         trace: "config 2 4 2\n0 L 0x0\n0 S 0x0 5\n1 L 0x0\n",
         report: "\
 0 L 0x0 = 0
@@ -117,7 +134,7 @@ end rested
     },
     // A load past the caches flushes the copy.
     Row {
-        image: &MESI,
+        protocol: Protocol::Mesi,
         trace: "config 1 1 1\n0 S 0x0 5\n0 UL 0x0\n",
         report: "\
 0 S 0x0 5
@@ -130,7 +147,7 @@ end rested
     },
     // A block is given up; of one that isn't there nothing is asked.
     Row {
-        image: &MESI,
+        protocol: Protocol::Mesi,
         trace: "config 1 1 1\n0 S 0x0 5\n0 EV 0x0\n0 EV 0x0\n",
         report: "\
 0 S 0x0 5
@@ -143,7 +160,7 @@ end rested
     },
     // The highest address.
     Row {
-        image: &MESI,
+        protocol: Protocol::Mesi,
         trace: "config 1 64 8\n0 S 0xfffffffff8 1\n",
         report: "\
 0 S 0xfffffffff8 1
@@ -155,7 +172,7 @@ end rested
     },
     // The owner fills the other cache, keeps the block in O, and memory is not written.
     Row {
-        image: &MOESIF,
+        protocol: Protocol::Moesif,
         trace: "config 2 4 2\n0 L 0x0\n0 S 0x0 5\n1 L 0x0\n",
         report: "\
 0 L 0x0 = 0
@@ -174,7 +191,7 @@ end rested
 fn reports_of_protocols(rt: HostRuntime) -> Result<(), Fail> {
     let alloc = rt.alloc();
     for row in &ROWS {
-        let mut shelf = shelf_of(alloc, row.image, row.trace, Vec::new(alloc))?;
+        let mut shelf = shelf_of(alloc, image_of(row.protocol), row.trace, Vec::new(alloc))?;
         let mut sink = sink(alloc);
         let outcome = asked(alloc, &words(alloc)?, &mut shelf, &mut sink);
         assert_eq!(rt; outcome.status, OK);

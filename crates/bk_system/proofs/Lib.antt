@@ -1,15 +1,6 @@
 pub mod Banks
-pub mod Begun
 pub mod CacheRows
-pub mod Counted
-pub mod Ends
 pub mod Entries
 pub mod Fills
-pub mod InOrder
-pub mod Lines
-pub mod Prefixes
 pub mod Queues
-pub mod RowOne
-pub mod Scheduling
-pub mod Tight
 pub mod Words

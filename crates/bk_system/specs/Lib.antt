@@ -1,16 +1,10 @@
 pub mod Banks
 pub mod Channels
-pub mod Counted
 pub mod Events
-pub mod Faults
-pub mod Greedy
 pub mod Kept
 pub mod Memory
 pub mod Queues
-pub mod Report
 pub mod Rooms
 pub mod Runs
-pub mod Serial
 pub mod State
 pub mod Systems
-pub mod Whole

@@ -101,7 +101,7 @@ impl Hardware {
     }
 
     /// How many caches there are.
-    pub(crate) fn cache_count(&self) -> u8
+    pub fn cache_count(&self) -> u8
         ensures value { result ≡ self.now.config.caches }
         ensures few { result ≤ 8 }
     {
@@ -109,7 +109,7 @@ impl Hardware {
     }
 
     /// The cache of a number.
-    pub(crate) fn cache(&self, cache: u8) -> &CacheArrays
+    pub fn cache(&self, cache: u8) -> &CacheArrays
         requires { cache < self.now.config.caches }
         ensures state { caches.state_of result.now ≡ (state_of self.now).caches cache }
         ensures config { result.now.config ≡ self.now.config }

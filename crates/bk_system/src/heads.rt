@@ -13,11 +13,11 @@ use bk_isa::{Form, Instr};
 use bk_msg::Message;
 
 /// The classes of heads that `wfq` takes.
-pub(crate) const RESPONSES: u8 = 1;
+pub const RESPONSES: u8 = 1;
 
-pub(crate) const MEMORY_ANSWERS: u8 = 2;
+pub const MEMORY_ANSWERS: u8 = 2;
 
-pub(crate) const REQUESTS: u8 = 3;
+pub const REQUESTS: u8 = 3;
 
 /// The value of a request as a head, and that of a `CohAck`.
 pub(crate) const REQUEST: u8 = 1;

@@ -1,0 +1,9 @@
+pub mod Begun
+pub mod Counted
+pub mod Ends
+pub mod InOrder
+pub mod Lines
+pub mod Prefixes
+pub mod RowOne
+pub mod Scheduling
+pub mod Tight

@@ -1,0 +1,14 @@
+use Rattle.std.proofs.Common.{◌≡◌, ◌≤◌, length}
+use Rattle.std.specs.Fn.{FnReturnsAt}
+use Rattle.bk_system.specs.Runs.{run}
+use Rattle.bk_run.specs.Greedy.{IsGreedy}
+use Rattle.bk_system.specs.Systems.{state_of}
+use Rattle.bk_run.proofs.runs.make_events.Given as goal
+
+abbrev pub invariant-loop : goal.invariant-loop
+invariant-loop g l = record {
+  config : l.hardware.config ≡ l.trace.config;
+  state : state_of l.hardware ≡ run l.trace.config l.program l.events.items;
+  greedy : IsGreedy (FnReturnsAt g.F.Fn l.victim.pick) l.trace.config l.program l.trace.lines l.events.items;
+  count : length l.events.items ≡ l.counter;
+}

@@ -1,0 +1,200 @@
+ghost use Rattle.std.specs.Prelude.{◌≡◌, ◌≤◌, ◌<◌, length, IfSome, MatchOption};
+ghost use Rattle.std.specs.Option.{option_copied};
+ghost use Rattle.std.specs.Fn.{FnReturnsAt};
+ghost use Rattle.bk_base.specs.Counting.{first_below};
+ghost use Rattle.bk_lce.specs.Asked.{IsPolicy};
+ghost use Rattle.bk_run.specs.Greedy.{ready, engine_of, fill_from, if_enabled, least_other, next_operation, IsLeast, IsEnd};
+ghost use Rattle.bk_system.specs.Systems.{state_of};
+ghost use Rattle.bk_system.specs.declared.event.Event.TheVariants.{Command};
+
+use bk_base::{Op, group_of};
+use bk_engine::Choice;
+use bk_isa::Instr;
+use bk_lce::{Victim, WayView, address_of};
+use bk_system::{Event, Hardware, MEMORY_ANSWERS, REQUESTS, RESPONSES};
+use bk_trace::Trace;
+
+/// The next operation of a cache in the trace: number n of its own, where n is how many have completed.
+fn next_operation<'a>(hardware: &Hardware, trace: &'a Trace, cache: u8) -> Option<&'a Op>
+    requires config { trace.now.config ≡ hardware.now.config }
+    requires cache { cache < hardware.now.config.caches }
+    ensures { option_copied result ≡ next_operation (state_of hardware.now) trace.now.lines cache }
+{
+    trace
+        .operations(cache)
+        .get(hardware.completed(cache))
+}
+
+/// The event, if it is enabled.
+fn if_enabled(hardware: &Hardware, program: &[Instr], event: Event) -> Option<Event>
+    requires { length program.now ≤ 256 }
+    ensures { result ≡ if_enabled hardware.now.config program.now (state_of hardware.now) event }
+{
+    if hardware.enabled(program, &event) {
+        Some(event)
+    } else {
+        None
+    }
+}
+
+/// A cache with its next operation, if there is one and the cache may issue it. Whether it may doesn't hang on the way.
+fn ready(hardware: &Hardware, program: &[Instr], trace: &Trace, cache: u8) -> Option<(u8, Op)>
+    requires few { length program.now ≤ 256 }
+    requires config { trace.now.config ≡ hardware.now.config }
+    requires cache { cache < hardware.now.config.caches }
+    ensures own { IfSome result (λ at. at.0 ≡ cache) }
+    ensures value { result ≡ ready hardware.now.config program.now (state_of hardware.now) trace.now.lines cache }
+{
+    match next_operation(hardware, trace, cache) {
+        None => None,
+        Some(op) => {
+            let issue = Event::Issue {
+                cache,
+                op: *op,
+                way: 0,
+            };
+            if hardware.enabled(program, &issue) {
+                Some((cache, *op))
+            } else {
+                None
+            }
+        }
+    }
+}
+
+fn first_ready(hardware: &Hardware, program: &[Instr], trace: &Trace) -> Option<(u8, Op)>
+    requires few { length program.now ≤ 256 }
+    requires config { trace.now.config ≡ hardware.now.config }
+    ensures cache { IfSome result (λ at. at.0 < hardware.now.config.caches) }
+    ensures first { result ≡ first_below hardware.now.config.caches (ready hardware.now.config program.now (state_of hardware.now) trace.now.lines) }
+{
+    for cache in 0..hardware.cache_count() {
+        match ready(hardware, program, trace, cache) {
+            None => {}
+            Some(at) => return Some(at),
+        }
+    }
+    None
+}
+
+fn engine_of(hardware: &Hardware, program: &[Instr], class: u8, source: u8) -> Option<Event>
+    requires { length program.now ≤ 256 }
+    ensures { result ≡ engine_of hardware.now.config program.now (state_of hardware.now) class source }
+{
+    if_enabled(
+        hardware,
+        program,
+        Event::Engine {
+            choice: Choice { class, source },
+        },
+    )
+}
+
+fn first_engine(hardware: &Hardware, program: &[Instr], class: u8) -> Option<Event>
+    requires { length program.now ≤ 256 }
+    ensures { result ≡ first_below hardware.now.config.caches (engine_of hardware.now.config program.now (state_of hardware.now) class) }
+{
+    for source in 0..hardware.cache_count() {
+        match engine_of(hardware, program, class, source) {
+            None => {}
+            Some(event) => return Some(event),
+        }
+    }
+    None
+}
+
+fn first_command(hardware: &Hardware, program: &[Instr]) -> Option<Event>
+    requires { length program.now ≤ 256 }
+    ensures { result ≡ first_below hardware.now.config.caches (λ c. if_enabled hardware.now.config program.now (state_of hardware.now) (Command c)) }
+{
+    for cache in 0..hardware.cache_count() {
+        match if_enabled(hardware, program, Event::Command { cache }) {
+            None => {}
+            Some(event) => return Some(event),
+        }
+    }
+    None
+}
+
+fn fill_from(hardware: &Hardware, program: &[Instr], to: u8, from: u8) -> Option<Event>
+    requires { length program.now ≤ 256 }
+    ensures { result ≡ fill_from hardware.now.config program.now (state_of hardware.now) to from }
+{
+    if_enabled(hardware, program, Event::Fill { to, from })
+}
+
+fn first_fill_to(hardware: &Hardware, program: &[Instr], to: u8) -> Option<Event>
+    requires { length program.now ≤ 256 }
+    ensures { result ≡ first_below hardware.now.config.caches (fill_from hardware.now.config program.now (state_of hardware.now) to) }
+{
+    for from in 0..hardware.cache_count() {
+        match fill_from(hardware, program, to, from) {
+            None => {}
+            Some(event) => return Some(event),
+        }
+    }
+    None
+}
+
+fn first_fill(hardware: &Hardware, program: &[Instr]) -> Option<Event>
+    requires { length program.now ≤ 256 }
+    ensures { result ≡ first_below hardware.now.config.caches (λ to. first_below hardware.now.config.caches (fill_from hardware.now.config program.now (state_of hardware.now) to)) }
+{
+    for to in 0..hardware.cache_count() {
+        match first_fill_to(hardware, program, to) {
+            None => {}
+            Some(event) => return Some(event),
+        }
+    }
+    None
+}
+
+/// The least enabled event of the greedy order but for Issue.
+pub(crate) fn least_other(hardware: &Hardware, program: &[Instr]) -> Option<Event>
+    requires { length program.now ≤ 256 }
+    ensures { result ≡ least_other hardware.now.config program.now (state_of hardware.now) }
+{
+    if let Some(event) = engine_of(hardware, program, 0, 0) {
+        return Some(event);
+    }
+    if let Some(event) = first_engine(hardware, program, RESPONSES) {
+        return Some(event);
+    }
+    if let Some(event) = engine_of(hardware, program, MEMORY_ANSWERS, 0) {
+        return Some(event);
+    }
+    if let Some(event) = first_engine(hardware, program, REQUESTS) {
+        return Some(event);
+    }
+    if let Some(event) = first_command(hardware, program) {
+        return Some(event);
+    }
+    if let Some(event) = first_fill(hardware, program) {
+        return Some(event);
+    }
+    if_enabled(hardware, program, Event::Memory)
+}
+
+/// The least enabled event of the greedy order; the way of an Issue is the policy's answer to the views of its set.
+pub(crate) fn least_of<F: Fn(&[WayView]) -> u8 + Copy + Send>(
+    hardware: &Hardware,
+    victim: &Victim<F>,
+    program: &[Instr],
+    trace: &Trace,
+) -> Option<Event>
+    requires few { length program.now ≤ 256 }
+    requires config { trace.now.config ≡ hardware.now.config }
+    requires policy { IsPolicy F.Fn victim.now.pick }
+    ensures { MatchOption result (IsEnd hardware.now.config program.now (state_of hardware.now) trace.now.lines)
+        (IsLeast (FnReturnsAt F.Fn victim.now.pick) hardware.now.config program.now (state_of hardware.now) trace.now.lines) }
+{
+    let config = trace.config();
+    match first_ready(hardware, program, trace) {
+        None => least_other(hardware, program),
+        Some((cache, op)) => {
+            let set = group_of(config, address_of(&op));
+            let way = victim.choose(hardware.cache(cache), set);
+            Some(Event::Issue { cache, op, way })
+        }
+    }
+}

@@ -1,8 +1,0 @@
-use Rattle.std.proofs.Common.{◌≡◌, None}
-use Rattle.bk_base.specs.Counting.{first_below}
-use Rattle.bk_system.specs.Greedy.{ready}
-use Rattle.bk_system.specs.Systems.{state_of}
-use Rattle.bk_system.proofs.greedy.first_ready.Given as goal
-
-abbrev pub invariant-loop-cache : goal.invariant-loop-cache
-invariant-loop-cache l = first_below l.cache (ready l.hardware.config l.program (state_of l.hardware) l.trace.lines) ≡ None
