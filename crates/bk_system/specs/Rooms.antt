@@ -1,14 +1,16 @@
 -- The room that an event needs, and what a cache's step adds to a system.
-use Rattle.std.specs.Prelude.{◌≡◌, ℕ, ◌<◌, ◌≤◌, ◌++◌, Option, Some, None, vec_len, vec_capacity, Result, Ok, Err}
+use Rattle.std.specs.Prelude.{◌≡◌, ℕ, ◌<◌, ◌≤◌, ◌++◌, List, Option, Some, None, vec_len, vec_capacity, Result, Ok, Err}
 use Rattle.std.specs.Option.{option_to_list}
+use Rattle.bk_base.specs.Places.{Shape}
 use Rattle.bk_base.specs.declared.op.Done.{Done}
+use Rattle.bk_engine.specs.declared.parts.Choice.{Choice}
 use Rattle.bk_msg.specs.declared.row.Row.{Row}
 use Rattle.bk_system.specs.declared.event.Stepped.{Stepped}
 use Rattle.bk_system.specs.declared.event.Stepped.TheVariants.{Disabled, Ran}
 use Rattle.bk_system.specs.declared.hardware.Hardware.{Hardware}
 use Rattle.bk_system.specs.Channels.{room}
 use Rattle.bk_system.specs.State.{State}
-use Rattle.bk_system.specs.Events.{Happening, requests_with, responses_with, fills_with}
+use Rattle.bk_system.specs.Events.{Happening, requests_with, responses_with, fills_with, commands_with, memout_with, popped_groups, heads_left, memin_left}
 use Rattle.bk_system.specs.Kept.{fill_place}
 
 -- room for all that a step of cache c may send, and for the operation that it may complete
@@ -33,6 +35,20 @@ with_step s c sent done = record s {
   fill = fills_with c sent s.fill;
   history = s.history ++ option_to_list done;
 }
+
+-- the heads that the engine has popped are off their channels, and their groups are noted
+abbrev pub with_popped : Shape → State → Option Choice → State
+with_popped k s popped = record s {
+  taken = s.taken ++ popped_groups k s 1 popped;
+  settled = s.settled ++ popped_groups k s 3 popped;
+  response = heads_left 1 popped s.response;
+  memin = memin_left popped s.memin;
+  request = heads_left 3 popped s.request;
+}
+
+-- what an instruction sends and pops
+abbrev pub with_finished : Shape → State → List Row → Option Choice → State
+with_finished k s sent popped = with_popped k (record s { command = commands_with sent s.command; memout = memout_with sent s.memout }) popped
 
 -- an event's row, by what it answered and left
 abbrev pub Answers : Option Happening → State → State → Stepped → Type 0

@@ -84,10 +84,27 @@ pub(crate) fn offered<'a>(
     }
 }
 
+/// A copy of the head that a choice names.
+pub(crate) fn head_of(
+    responses: &Channels,
+    memin: &Channels,
+    requests: &Channels,
+    choice: Choice,
+) -> Option<Message>
+    requires memin { memin.now.config ≡ responses.now.config }
+    requires requests { requests.now.config ≡ responses.now.config }
+    ensures { result ≡ offered_of (queue responses.now) (queue memin.now 0) (queue requests.now) choice }
+{
+    match offered(responses, memin, requests, choice) {
+        None => None,
+        Some(message) => Some(*message),
+    }
+}
+
 /// Notes the group of a popped head of a source, where it has this value as a head. Room was made.
-pub(crate) fn note_group(groups: &mut Vec<Group>, config: Config, number: u8, source: u8, head: Option<Message>)
+pub(crate) fn note_group(groups: &mut Vec<Group>, config: Config, number: u8, source: u8, head: &Option<Message>)
     requires { vec_len groups.old < vec_capacity groups.old }
-    ensures { groups.new.items ≡ groups.old.items ++ groups_of config number source head }
+    ensures { groups.new.items ≡ groups.old.items ++ groups_of config number source head.now }
 {
     let Some(message) = head else {
         return;

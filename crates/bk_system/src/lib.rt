@@ -5,9 +5,12 @@ mod bounds;
 mod caches;
 mod channels;
 mod event;
+mod happening;
 mod hardware;
 mod heads;
 mod memory;
+mod rest;
+mod running;
 mod sending;
 mod steps;
 
