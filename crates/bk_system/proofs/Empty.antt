@@ -1,5 +1,5 @@
 -- What is empty and idle, from what the code has tested.
-use Rattle.std.proofs.Common.{◌≡◌, ◌∙◌, ℕ, ◌<◌, List, [], ◌∷◌, Bool, true, false, Option, Some, None, refl, ap, sym}
+use Rattle.std.proofs.Common.{◌≡◌, ◌∙◌, ℕ, ◌<◌, List, [], ◌∷◌, Bool, Option, Some, None, refl, ap, sym}
 use Rattle.std.specs.Prelude.{is_none, is_some, not, slice_get, ◌&&◌}
 use Rattle.std.specs.Option.{option_copied}
 use Rattle.std.specs.Borrow.{Bor}

@@ -17,3 +17,6 @@ mod steps;
 pub use event::{Event, Group, Stepped};
 pub use hardware::Hardware;
 pub use memory::MainMemory;
+
+#[cfg(test)]
+mod tests;
