@@ -1,8 +1,7 @@
 -- The caches of a system kept in a list.
-use Rattle.std.proofs.Common.{◌≡◌, ℕ, zero, suc, ◌<◌, List, [], ◌∷◌, ◌++◌, Option, Some, None, Result, Ok, Err, refl, ap, sym, subst, ◌∙◌, length, get_or, set, arith}
+use Rattle.std.proofs.Common.{◌≡◌, ℕ, zero, suc, ◌<◌, List, [], ◌∷◌, ◌++◌, Option, Some, Result, refl, ap, sym, subst, ◌∙◌, length, get_or, set}
 use Rattle.std.specs.Prelude.{slice_get, IfOk}
 use Rattle.std.proofs.lemmas.Option.{slice_get_read}
-use mathlib.Core.Path.{fun_ext}
 use Rattle.bk_base.specs.Places.{Shape}
 use Rattle.bk_base.specs.Tables.{put}
 use Rattle.bk_lce.specs.declared.arrays.CacheArrays.{CacheArrays}
@@ -12,7 +11,7 @@ use Rattle.bk_lce.specs.CacheTable.{Taken, Gives}
 use Rattle.bk_lce.specs.Caches.{state_of}
 use Rattle.bk_lce.specs.Calls.{SendsWithin, CompletesOwn}
 use Rattle.bk_system.specs.Kept.{caches_of, AreCaches}
-use Rattle.bk_system.proofs.Queues.{at, at-item, at-more, table-set, put_at}
+use Rattle.bk_system.proofs.Queues.{at-item, at-more, table-set, put_at}
 
 -- what holds of each item at its place, after one was written or put at the end
 each-set : {X : Type 0} (xs : List X) (c : ℕ) (x : X) (P : ℕ → X → Type 0) → ((j : ℕ) (y : X) → slice_get xs j ≡ Some y → P j y) → P c x → (j : ℕ) (y : X) → slice_get (set xs c x) j ≡ Some y → P j y

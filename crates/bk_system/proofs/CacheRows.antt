@@ -12,9 +12,9 @@ use Rattle.bk_lce.specs.CacheState.{CacheState}
 use Rattle.bk_lce.specs.CacheTable as table
 use Rattle.bk_lce.specs.CacheTable.{Taken}
 use Rattle.bk_system.specs.State.{State}
-use Rattle.bk_system.specs.Events.{Happening, first, takes, issue_taken, command_taken, fill_of, fill_taken}
+use Rattle.bk_system.specs.Events.{first, takes, issue_taken, command_taken, fill_of, fill_taken}
 use Rattle.bk_system.specs.Kept.{fill_place, fills_of}
-use Rattle.bk_system.specs.Rooms.{with_step, Answers}
+use Rattle.bk_system.specs.Rooms.{with_step}
 use Rattle.bk_system.proofs.Queues.{put-same}
 use Rattle.bk_system.proofs.Fills.{fills-at, fills-put}
 
@@ -63,5 +63,5 @@ pub took : (s new : State) (c : ℕ) (o : Option Taken) (caches : ℕ → CacheS
     → takes (record s { command = command; fill = fill }) c o ≡ Some (record { state = new; sent = out })
 took s new c o caches command fill n sent done way out e g h w =
     let left : with_step (record s { caches = put s.caches c n; command = command; fill = fill }) c sent done ≡ new
-        = ap (λ (f : ℕ → CacheState). with_step (record s { caches = f; command = command; fill = fill }) c sent done) (sym g) ∙ sym h in
+    = ap (λ (f : ℕ → CacheState). with_step (record s { caches = f; command = command; fill = fill }) c sent done) (sym g) ∙ sym h in
     ap (takes (record s { command = command; fill = fill }) c) e ∙ (λ i. Some (record { state = left i; sent = sym w i }))

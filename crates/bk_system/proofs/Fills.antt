@@ -1,5 +1,5 @@
 -- The fill channels, by receiver and sender.
-use Rattle.std.proofs.Common.{◌≡◌, ◌≢◌, ℕ, ◌+◌, ◌*◌, ◌<◌, List, [], ◌∷◌, ◌++◌, Bool, true, false, Option, Some, refl, ap, sym, subst, ◌∙◌, inl, inr, arith}
+use Rattle.std.proofs.Common.{◌≡◌, ◌≢◌, ℕ, ◌<◌, List, [], ◌∷◌, ◌++◌, Bool, true, false, Option, Some, refl, ap, sym, subst, ◌∙◌, inl, inr, arith}
 use Rattle.std.specs.Prelude.{nat_lt, ◌&&◌, if◌then◌else◌}
 use Rattle.std.proofs.lemmas.Bool.{cases_eq}
 use Rattle.std.proofs.lemmas.Bool.Decides.{nat_tests}
@@ -39,10 +39,10 @@ unfolding fills_of
 to-receiver q to from ms b l m =
     elim (cases_eq b from) [
       | inl same ↦ subst (λ (j : ℕ). fills_of (put q (fill_place to from) ms) to j ≡ put (fills_of q to) from ms j) (sym same)
-            (fills-at (put q (fill_place to from) ms) to from l m ∙ put_at q (fill_place to from) ms ∙ sym (put_at (fills_of q to) from ms))
+          (fills-at (put q (fill_place to from) ms) to from l m ∙ put_at q (fill_place to from) ms ∙ sym (put_at (fills_of q to) from ms))
       | inr differ ↦ if-same (nat_lt to 8 && nat_lt b 8) (put q (fill_place to from) ms (fill_place to b)) (q (fill_place to b))
-            (λ e. put_other q (fill_place to from) ms (fill_place to b) (other-place to b to from (in-range to b e) m (λ h. differ h.1)))
-            ∙ sym (put_other (fills_of q to) from ms b differ)
+          (λ e. put_other q (fill_place to from) ms (fill_place to b) (other-place to b to from (in-range to b e) m (λ h. differ h.1)))
+          ∙ sym (put_other (fills_of q to) from ms b differ)
     ]
 
 -- the channels to another receiver
@@ -57,7 +57,7 @@ fills-one : (q : ℕ → List Row) (to from : ℕ) (ms : List Row) (a b : ℕ) �
 fills-one q to from ms a b l m =
     elim (cases_eq a to) [
       | inl same ↦ subst (λ (j : ℕ). fills_of (put q (fill_place to from) ms) j b ≡ put (fills_of q) to (put (fills_of q to) from ms) j b) (sym same)
-            (to-receiver q to from ms b l m ∙ ap (λ (f : ℕ → List Row). f b) (sym (put_at (fills_of q) to (put (fills_of q to) from ms))))
+          (to-receiver q to from ms b l m ∙ ap (λ (f : ℕ → List Row). f b) (sym (put_at (fills_of q) to (put (fills_of q to) from ms))))
       | inr differ ↦ to-other q to from ms a b m differ ∙ ap (λ (f : ℕ → List Row). f b) (sym (put_other (fills_of q) to (put (fills_of q to) from ms) a differ))
     ]
 

@@ -3,4 +3,5 @@ pub mod CacheRows
 pub mod Entries
 pub mod Fills
 pub mod Queues
+pub mod Empty
 pub mod Words

@@ -20,7 +20,7 @@ use Rattle.bk_msg.specs.Within.{IsWithin}
 use Rattle.bk_base.specs.Tables.{put}
 use Rattle.bk_system.specs.declared.channels.Channels.{Channels}
 use Rattle.bk_base.specs.Counting.{is_nil}
-use Rattle.bk_system.specs.Queues.{Queue, queues_of, rooms_of, EachWithin, AreWithin}
+use Rattle.bk_system.specs.Queues.{Queue, queues_of, EachWithin, AreWithin}
 use Rattle.bk_system.specs.Channels.{queue, room}
 
 -- f of the value at a place, or a default past the end
@@ -163,6 +163,7 @@ put-le f k v n l j = near (eqb j k) (λ e. ap f (same j k e))
   where
     same : (j k : ℕ) → eqb j k ≡ true → j ≡ k
     same j k e = grind (arith, nat_tests)
+
     near : (b : Bool) → (b ≡ true → f j ≡ f k) → f j ≤ cond b v (f j) + n
     near true e = let is : f j ≡ f k = e refl in omega arith
     near false e = omega arith

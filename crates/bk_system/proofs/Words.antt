@@ -1,5 +1,5 @@
 -- The words of a memory whose blocks are kept in a map.
-use Rattle.std.proofs.Common.{◌≡◌, ◌≢◌, ℕ, zero, suc, ◌+◌, ◌*◌, ◌/◌, ◌%◌, ◌<◌, List, [], ◌∷◌, length, get_or, set, Bool, true, false, cond, eqb, Option, Some, None, refl, ap, sym, ◌∙◌, arith, get_or-set_same, get_or-set_other}
+use Rattle.std.proofs.Common.{◌≡◌, ◌≢◌, ℕ, zero, suc, ◌+◌, ◌*◌, ◌%◌, ◌<◌, List, [], ◌∷◌, length, get_or, set, Bool, true, false, cond, eqb, Option, Some, refl, ap, sym, ◌∙◌, arith, get_or-set_same, get_or-set_other}
 use Rattle.std.specs.Prelude.{unwrap_or, replicate, ◌&&◌, ◌==◌, if◌then◌else◌, slice_index}
 use Rattle.std.specs.Ordering.{nat_cmp}
 use Rattle.std.specs.BTreeMap.{get, is_at}
@@ -69,7 +69,7 @@ words-read m addr words e l =
     let at = λ (j a : ℕ) (lt : j < 8) (is : a ≡ b * 64 + 8 * j). ap (λ (ws : List ℕ). get_or ws j 0) e ∙ place (block_in m) b j a lt is in
     let s = block_start addr in
     eight words l ∙ (λ i. at 0 s (omega arith) (omega arith) i ∷ at 1 (s + 8) (omega arith) (omega arith) i ∷ at 2 (s + 16) (omega arith) (omega arith) i ∷ at 3 (s + 24) (omega arith) (omega arith) i
-        ∷ at 4 (s + 32) (omega arith) (omega arith) i ∷ at 5 (s + 40) (omega arith) (omega arith) i ∷ at 6 (s + 48) (omega arith) (omega arith) i ∷ at 7 (s + 56) (omega arith) (omega arith) i ∷ [])
+    ∷ at 4 (s + 32) (omega arith) (omega arith) i ∷ at 5 (s + 40) (omega arith) (omega arith) i ∷ at 6 (s + 48) (omega arith) (omega arith) i ∷ at 7 (s + 56) (omega arith) (omega arith) i ∷ [])
 
 -- WRITING
 
@@ -128,7 +128,7 @@ unfolding word_at put
 words-word m n addr word words e al l h = fun_ext (λ a.
     ap (λ (ws : List ℕ). if a % 8 == 0 then get_or ws (word_of a) 0 else 0) (block-put m n (block_of addr) (set words (word_of addr) word) h (block_of a))
     ∙ word-set (a % 8 == 0) (eqb (block_of a) (block_of addr)) (eqb a addr) (block_in m (block_of a)) words (word_of a) (word_of addr) word
-        (λ here. ap (block_in m) (is (block_of a) (block_of addr) here) ∙ sym e)
-        (λ own. let s = is a addr own in (is-so (a % 8) 0 (ap (λ (q : ℕ). q % 8) s ∙ al), is-so (block_of a) (block_of addr) (ap block_of s), ap word_of s))
-        (λ aligned here own w. is-not a addr own (same-word a addr (is (a % 8) 0 aligned) al (is (block_of a) (block_of addr) here) w))
-        (omega arith))
+    (λ here. ap (block_in m) (is (block_of a) (block_of addr) here) ∙ sym e)
+    (λ own. let s = is a addr own in (is-so (a % 8) 0 (ap (λ (q : ℕ). q % 8) s ∙ al), is-so (block_of a) (block_of addr) (ap block_of s), ap word_of s))
+    (λ aligned here own w. is-not a addr own (same-word a addr (is (a % 8) 0 aligned) al (is (block_of a) (block_of addr) here) w))
+    (omega arith))

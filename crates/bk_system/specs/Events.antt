@@ -1,5 +1,5 @@
 -- What each event does: a row a case. An event without a row isn't enabled, and changes nothing.
-use Rattle.std.specs.Prelude.{ℕ, List, [], ◌∷◌, ◌++◌, Bool, true, false, ◌&&◌, Option, Some, None, is_none, nat_lt, ◌==◌, if◌then◌else◌, slice_get, drop}
+use Rattle.std.specs.Prelude.{ℕ, List, [], ◌∷◌, ◌++◌, Bool, true, false, ◌&&◌, Option, Some, None, nat_lt, ◌==◌, if◌then◌else◌, slice_get, drop}
 use Rattle.std.specs.Option.{option_to_list}
 use Rattle.bk_base.specs.Places.{Shape, group_of}
 use Rattle.bk_base.specs.Tables.{put}

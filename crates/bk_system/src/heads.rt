@@ -102,7 +102,13 @@ pub(crate) fn head_of(
 }
 
 /// Notes the group of a popped head of a source, where it has this value as a head. Room was made.
-pub(crate) fn note_group(groups: &mut Vec<Group>, config: Config, number: u8, source: u8, head: &Option<Message>)
+pub(crate) fn note_group(
+    groups: &mut Vec<Group>,
+    config: Config,
+    number: u8,
+    source: u8,
+    head: &Option<Message>,
+)
     requires { vec_len groups.old < vec_capacity groups.old }
     ensures { groups.new.items ≡ groups.old.items ++ groups_of config number source head.now }
 {

@@ -19,3 +19,6 @@ pub use event::{Event, Group, Stepped};
 pub use hardware::Hardware;
 pub use heads::{MEMORY_ANSWERS, REQUESTS, RESPONSES};
 pub use memory::MainMemory;
+
+#[cfg(test)]
+mod tests;

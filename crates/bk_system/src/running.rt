@@ -9,7 +9,10 @@ use crate::bounds::has_cache;
 use crate::channels::Channels;
 use crate::event::Stepped;
 use crate::hardware::Hardware;
-use crate::heads::{head_of, COH_ACK, REQUEST, REQUESTS, RESPONSES, is_choice, note_group, offered, take_answer_off, take_off};
+use crate::heads::{
+    COH_ACK, REQUEST, REQUESTS, RESPONSES, head_of, is_choice, note_group, offered,
+    take_answer_off, take_off,
+};
 use crate::sending::{reserve_each, send_all};
 use crate::steps::list_of;
 use arrayvec::ArrayVec;
@@ -86,7 +89,13 @@ impl Hardware {
         };
         let head = head_of(&self.responses, &self.memin, &self.requests, choice);
         note_group(&mut self.taken, self.config, REQUEST, choice.source, &head);
-        note_group(&mut self.settled, self.config, COH_ACK, choice.source, &head);
+        note_group(
+            &mut self.settled,
+            self.config,
+            COH_ACK,
+            choice.source,
+            &head,
+        );
         take_off(&mut self.responses, RESPONSES, choice);
         take_answer_off(&mut self.memin, choice);
         take_off(&mut self.requests, REQUESTS, choice);

@@ -96,7 +96,11 @@ pub(crate) fn reserve_fills(fills: &mut Channels, caches: u8, from: u8) -> Resul
 }
 
 /// Makes room for so many messages in each of the channels. Want of memory changes nothing.
-pub(crate) fn reserve_each(channels: &mut Channels, count: u8, more: usize) -> Result<(), AllocError>
+pub(crate) fn reserve_each(
+    channels: &mut Channels,
+    count: u8,
+    more: usize,
+) -> Result<(), AllocError>
     requires { channel_count channels.old ≡ count }
     ensures queue { queue channels.new ≡ queue channels.old }
     ensures room { OnOk result ((c : ℕ) → c < count → more ≤ room channels.new c) }

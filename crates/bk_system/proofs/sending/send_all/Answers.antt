@@ -1,4 +1,4 @@
-use Rattle.std.proofs.Common.{ℕ, ◌<◌, length, arith, get_or, subst, sym}
+use Rattle.std.proofs.Common.{arith, subst, sym}
 use Rattle.bk_base.specs.Places.{Shape}
 use Rattle.bk_msg.specs.Within.{IsWithin}
 use Rattle.bk_system.proofs.Queues.{outward-at}

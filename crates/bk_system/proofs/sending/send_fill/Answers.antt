@@ -1,8 +1,6 @@
-use Rattle.std.proofs.Common.{◌≡◌, ◌<◌, ◌≤◌, ℕ, ◌∙◌, ◌∷◌, [], ◌++◌, List, sym, ap, subst, arith}
-use Rattle.bk_msg.specs.declared.row.Row.{Row}
+use Rattle.std.proofs.Common.{◌<◌, ◌≤◌, ℕ, ◌∙◌, ◌∷◌, [], ◌++◌, sym, ap, subst, arith}
 use Rattle.bk_base.specs.Tables.{put}
 use Rattle.bk_system.specs.Channels.{queue, room}
-use Rattle.bk_system.specs.Kept.{fill_place}
 use Rattle.bk_system.proofs.Fills.{fill-receiver, fill-sent}
 use Rattle.bk_system.proofs.sending.send_fill.Goals as goal
 

@@ -1,4 +1,4 @@
-use Rattle.std.proofs.Common.{◌≡◌, ℕ, ◌<◌, length, sym, subst, ◌∙◌, arith}
+use Rattle.std.proofs.Common.{ℕ, ◌<◌, length, sym, subst, ◌∙◌, arith}
 use Rattle.bk_base.specs.Places.{Shape}
 use Rattle.bk_msg.specs.Within.{IsWithin}
 use Rattle.bk_lce.specs.CacheState.{CacheState}

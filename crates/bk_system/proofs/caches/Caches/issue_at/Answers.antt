@@ -1,6 +1,5 @@
-use Rattle.std.proofs.Common.{◌≡◌, ℕ, ◌<◌, length, sym, subst, ◌∙◌, arith}
+use Rattle.std.proofs.Common.{ℕ, ◌<◌, length, sym, subst, ◌∙◌, arith}
 use Rattle.bk_base.specs.Places.{Shape}
-use Rattle.bk_msg.specs.Within.{IsWithin}
 use Rattle.bk_lce.specs.CacheState.{CacheState}
 use Rattle.bk_lce.specs.CacheTable.{issue}
 use Rattle.bk_system.proofs.Banks.{own-item, own-set, caches-others, gives-along, within-along, completes-along}

@@ -1,4 +1,4 @@
-use Rattle.std.proofs.Common.{◌≡◌, ℕ, length, List, sym, subst, ◌∙◌, arith}
+use Rattle.std.proofs.Common.{◌≡◌, length, List, sym, subst, arith}
 use mathlib.Core.Path.{fun_ext}
 use Rattle.bk_lce.specs.declared.arrays.CacheArrays.{CacheArrays}
 use Rattle.bk_lce.specs.CacheState.{opening}

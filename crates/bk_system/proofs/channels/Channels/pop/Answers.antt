@@ -1,5 +1,5 @@
 use Rattle.std.specs.VecDeque.{deque_len, deque_capacity}
-use Rattle.std.proofs.Common.{◌≤◌, ◌-◌, ℕ, ◌<◌, length, refl, ap, sym, subst, ◌∙◌, drop, List, arith}
+use Rattle.std.proofs.Common.{◌≤◌, ◌-◌, ◌<◌, length, refl, ap, sym, subst, ◌∙◌, drop, List, arith}
 use Rattle.std.specs.Prelude.{slice_get}
 use Rattle.bk_msg.specs.declared.row.Row.{Row}
 use Rattle.bk_base.specs.Tables.{put}

@@ -1,5 +1,4 @@
-use Rattle.std.proofs.Common.{◌≡◌, ◌≤◌, ◌+◌, ◌-◌, ℕ, ◌<◌, ◌∷◌, [], ◌++◌, length, refl, ap, sym, subst, ◌∙◌, List, arith}
-use Rattle.std.specs.Vec.{vec_len}
+use Rattle.std.proofs.Common.{◌≤◌, ◌+◌, ◌-◌, ◌<◌, ◌∷◌, [], ◌++◌, length, refl, ap, sym, subst, ◌∙◌, List, arith}
 use Rattle.std.specs.VecDeque.{deque_len, deque_capacity}
 use Rattle.bk_msg.specs.declared.row.Row.{Row}
 use Rattle.bk_base.specs.Tables.{put}

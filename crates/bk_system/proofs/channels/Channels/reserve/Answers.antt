@@ -1,7 +1,5 @@
-use Rattle.std.proofs.Common.{◌≡◌, ◌<◌, ◌≤◌, ◌+◌, ◌-◌, ℕ, length, refl, subst, sym, ap, ◌∙◌, arith}
+use Rattle.std.proofs.Common.{◌<◌, ◌≤◌, ◌-◌, length, refl, subst, sym, ◌∙◌, arith}
 use Rattle.std.specs.VecDeque.{deque_len, deque_capacity}
-use Rattle.bk_msg.specs.declared.row.Row.{Row}
-use Rattle.std.proofs.Common.{List}
 use Rattle.bk_system.specs.Queues.{EachWithin}
 use Rattle.bk_system.specs.Channels.{queue, room}
 use Rattle.bk_system.proofs.Queues.{queue-set, queue-item, room-item, room-made, room-kept, within-set, within-item, put-same}

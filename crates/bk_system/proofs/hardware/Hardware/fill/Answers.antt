@@ -1,18 +1,9 @@
-use Rattle.std.proofs.Common.{◌≡◌, ◌≤◌, ◌<◌, ℕ, List, true, None, ap, sym, ◌∙◌, arith}
-use Rattle.std.specs.Prelude.{nat_lt, drop, slice_get}
+use Rattle.std.proofs.Common.{◌≤◌, ◌<◌, ap, sym, ◌∙◌, arith}
 use Rattle.std.specs.Option.{option_copied}
-use Rattle.bk_base.specs.Places.{Shape}
-use Rattle.bk_base.specs.Tables.{put}
-use Rattle.bk_msg.specs.declared.row.Row.{Row}
-use Rattle.bk_lce.specs.CacheState.{CacheState}
-use Rattle.bk_lce.specs.CacheTable as table
-use Rattle.bk_system.specs.Banks.{states_of}
-use Rattle.bk_system.specs.Channels.{queue, room}
+use Rattle.bk_system.specs.Channels.{queue}
 use Rattle.bk_system.specs.State.{State}
 use Rattle.bk_system.specs.Systems.{state_of}
-use Rattle.bk_system.specs.Events.{first, takes, without_command, without_fill, fill_taken}
-use Rattle.bk_system.specs.Kept.{fills_of, fill_place}
-use Rattle.bk_system.specs.Rooms.{with_step}
+use Rattle.bk_system.specs.Events.{first, takes, without_fill}
 use Rattle.bk_system.proofs.CacheRows.{fill-none, fill-head, is-below}
 use Rattle.bk_system.proofs.hardware.Hardware.fill.Goals as goal
 

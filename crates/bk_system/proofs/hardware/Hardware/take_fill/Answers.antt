@@ -1,17 +1,15 @@
-use Rattle.std.proofs.Common.{◌≡◌, ◌≤◌, ◌<◌, ℕ, List, true, None, ap, sym, ◌∙◌, arith}
-use Rattle.std.specs.Prelude.{nat_lt, drop, slice_get}
-use Rattle.std.specs.Option.{option_copied}
+use Rattle.std.proofs.Common.{◌<◌, ℕ, List, ap, sym, ◌∙◌, arith}
+use Rattle.std.specs.Prelude.{drop}
 use Rattle.bk_base.specs.Places.{Shape}
 use Rattle.bk_base.specs.Tables.{put}
 use Rattle.bk_msg.specs.declared.row.Row.{Row}
 use Rattle.bk_lce.specs.CacheState.{CacheState}
 use Rattle.bk_lce.specs.CacheTable as table
 use Rattle.bk_system.specs.Banks.{states_of}
-use Rattle.bk_system.specs.Channels.{queue, room}
-use Rattle.bk_system.specs.State.{State}
+use Rattle.bk_system.specs.Channels.{queue}
 use Rattle.bk_system.specs.Systems.{state_of}
-use Rattle.bk_system.specs.Events.{first, takes, without_command, without_fill, fill_taken}
-use Rattle.bk_system.specs.Kept.{fills_of, fill_place}
+use Rattle.bk_system.specs.Events.{takes, without_fill, fill_taken}
+use Rattle.bk_system.specs.Kept.{fill_place}
 use Rattle.bk_system.specs.Rooms.{with_step}
 use Rattle.bk_system.proofs.CacheRows.{fill-row, fill-popped, caches-kept, took}
 use Rattle.bk_system.proofs.hardware.Hardware.take_fill.Goals as goal
@@ -26,10 +24,11 @@ conclude-requires-clause-room c = record {
 
 pub returns-in-Err-clause-happens : goal.returns-in-Err-clause-happens
 returns-in-Err-clause-happens c =
-    let s = state_of c.args.self.now in
-    (ap (takes (without_fill s c.args.to c.args.from) c.args.to) (fill-row c.args.self.now.config s c.args.to c.args.from c.args.message c.requires.to c.requires.from c.requires.head
-    ∙ ap (λ (k : Shape). table.fill k (s.caches c.args.to) c.args.to c.args.message) (sym c.args.self.now.caches_config) ∙ c.in-Err.ensures.gives.0),
-    ap (λ (g : ℕ → CacheState). record s { caches = g }) (caches-kept (states_of c.args.self.now.caches) (states_of c.fill.new.self) c.args.to c.fill.ensures.others c.in-Err.ensures.gives.1))
+    let s = state_of c.args.self.now in (
+      ap (takes (without_fill s c.args.to c.args.from) c.args.to) (fill-row c.args.self.now.config s c.args.to c.args.from c.args.message c.requires.to c.requires.from c.requires.head
+          ∙ ap (λ (k : Shape). table.fill k (s.caches c.args.to) c.args.to c.args.message) (sym c.args.self.now.caches_config) ∙ c.in-Err.ensures.gives.0),
+      ap (λ (g : ℕ → CacheState). record s { caches = g }) (caches-kept (states_of c.args.self.now.caches) (states_of c.fill.new.self) c.args.to c.fill.ensures.others c.in-Err.ensures.gives.1),
+    )
 
 pub returns-in-Ok-clause-happens : goal.returns-in-Ok-clause-happens
 returns-in-Ok-clause-happens c =

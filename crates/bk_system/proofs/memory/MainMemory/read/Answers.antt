@@ -1,5 +1,5 @@
 use Rattle.std.proofs.Common.{ap, ◌∙◌, List, ℕ}
-use Rattle.bk_base.specs.Places.{block_start, block_of}
+use Rattle.bk_base.specs.Places.{block_start}
 use Rattle.bk_msg.specs.declared.row.Row.TheVariants.{Block}
 use Rattle.bk_msg.specs.declared.row.TheConstants.{ENGINE, MEMORY}
 use Rattle.bk_system.proofs.Words.{words-read, block_in}

@@ -1,4 +1,4 @@
-use Rattle.std.proofs.Common.{◌∙◌, ap, ℕ, cond, Some, List, Option, Bool}
+use Rattle.std.proofs.Common.{◌∙◌, ap, ℕ, cond, Some}
 use Rattle.std.specs.Ordering.{nat_cmp}
 use Rattle.std.specs.BTreeMap.{get, is_at}
 use Rattle.bk_system.proofs.Words.{words-same, words-block}
