@@ -14,8 +14,8 @@ returns-in-None-clause-ok g c =
     let y = c.in-Ok.made.hardware in
     let events = c.in-Ok.made.events.items in
     let policy : List WayView → ℕ → Type 0 = FnReturnsAt g.F.Fn c.args.victim.now.pick in
-    let told = told-from k y.config p c.args.trace.now.lines events c.deref.result.now c.deref-2.result.now (state_of y) c.rested-rested.result c.in-Ok-is_done.complete
-    c.deref.ensures.value c.in-Ok.ensures.config c.in-Ok.ensures.state c.deref-2.ensures.value c.rested-rested.ensures c.in-Ok-is_done.ensures in
+    let told = told-from k y.config p c.args.trace.now.lines events c.deref.result.now c.history.result.now (state_of y) c.rested-rested.result c.in-Ok-is_done.complete
+    c.deref.ensures.value c.in-Ok.ensures.config c.in-Ok.ensures.state c.history.ensures c.rested-rested.ensures c.in-Ok-is_done.ensures in
     let made = made-run policy k p c.args.trace.now.lines c.args.budget events c.in-Ok-is_done.complete c.in-Ok.ensures.greedy c.in-Ok.ensures.within told in
     subst (λ (q : List Form). IsEnded policy k q c.args.trace.now.lines c.args.budget events c.in-Ok-is_done.complete) c.instrs-program.ensures.value
     (made-ended policy k y.config p c.args.trace.now.lines c.args.budget events (state_of y) c.in-Ok-is_done.complete made c.in-Ok.ensures.config c.in-Ok.ensures.state c.in-None.ensures)
@@ -27,8 +27,8 @@ returns-clause-fault g c =
     let y = c.in-Ok.made.hardware in
     let events = c.in-Ok.made.events.items in
     let policy : List WayView → ℕ → Type 0 = FnReturnsAt g.F.Fn c.args.victim.now.pick in
-    let told = told-from k y.config p c.args.trace.now.lines events c.deref.result.now c.deref-2.result.now (state_of y) c.rested-rested.result c.in-Ok-is_done.complete
-    c.deref.ensures.value c.in-Ok.ensures.config c.in-Ok.ensures.state c.deref-2.ensures.value c.rested-rested.ensures c.in-Ok-is_done.ensures in
+    let told = told-from k y.config p c.args.trace.now.lines events c.deref.result.now c.history.result.now (state_of y) c.rested-rested.result c.in-Ok-is_done.complete
+    c.deref.ensures.value c.in-Ok.ensures.config c.in-Ok.ensures.state c.history.ensures c.rested-rested.ensures c.in-Ok-is_done.ensures in
     let made = made-run policy k p c.args.trace.now.lines c.args.budget events c.in-Ok-is_done.complete c.in-Ok.ensures.greedy c.in-Ok.ensures.within told in
     subst (λ (q : List Form). IsSpent policy k q c.args.trace.now.lines c.args.budget events c.in-Ok-is_done.complete) c.instrs-program.ensures.value
     (made-spent policy k y.config p c.args.trace.now.lines c.args.budget events (state_of y) c.in-Ok-is_done.complete c.in-Some.field-0 made c.in-Ok.ensures.whole c.in-Ok.ensures.config c.in-Ok.ensures.state c.in-Some.ensures)
