@@ -7,7 +7,6 @@ pub mod Laws
 pub mod Outward
 pub mod Ranges
 pub mod Reads
-pub mod Running
 pub mod Sends
 pub mod Step
 pub mod Stops

@@ -87,14 +87,19 @@ impl Engine {
         ) {
             Some(Stop::Waits(classes)) => EngineStep::Waits(classes),
             Some(Stop::Halts(reason)) => EngineStep::Halted(reason),
-            None => run(
-                self.config,
-                &mut self.core,
-                &mut self.directory,
-                program,
-                choice,
-                head,
-            ),
+            None => {
+                let mut sent = ArrayVec::new();
+                let popped = run(
+                    self.config,
+                    &mut self.core,
+                    &mut self.directory,
+                    program,
+                    choice,
+                    head,
+                    &mut sent,
+                );
+                EngineStep::Ran { sent, popped }
+            }
         }
     }
 
