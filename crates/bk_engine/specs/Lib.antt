@@ -2,6 +2,7 @@ pub mod Changes
 pub mod Core
 pub mod Engines
 pub mod Heads
+pub mod Into
 pub mod Kept
 pub mod Laws
 pub mod Outward
