@@ -1,12 +1,10 @@
 pub mod State
+pub mod Memory
 pub mod Events
 pub mod Runs
 pub mod Greedy
 pub mod Report
 pub mod Serial
 pub mod Faults
-pub mod Channels
-pub mod Kept
-pub mod Systems
 pub mod Counted
 pub mod Whole

@@ -18,7 +18,9 @@ use Rattle.bk_system.specs.declared.event.Event.{Event}
 use Rattle.bk_system.specs.declared.event.Event.TheVariants as events
 use Rattle.bk_system.specs.declared.counts.Counts.{Counts}
 use Rattle.bk_base.specs.Counting.{join_below}
-use Rattle.bk_system.specs.State.{State, Line, opening}
+use Rattle.bk_lce.specs.declared.line.Line.{Line}
+use Rattle.bk_lce.specs.CacheState.{CacheState}
+use Rattle.bk_system.specs.State.{State, opening}
 use Rattle.bk_system.specs.Events.{Happening, row}
 use Rattle.bk_system.specs.Runs.{after, run, IsComplete}
 
@@ -96,14 +98,14 @@ abbrev pub line_text : ℕ → ℕ → ℕ → Line → List ℕ
 line_text c s w line = line_text_in c s w line line.state
 
 -- the entries by cache, set and way
-abbrev pub lines_text : Shape → (ℕ → ℕ → ℕ → Line) → List ℕ
-lines_text k lines = join_below k.caches (λ c. join_below k.sets (λ s. join_below k.ways (λ w. line_text c s w (lines c s w))))
+abbrev pub lines_text : Shape → (ℕ → CacheState) → List ℕ
+lines_text k caches = join_below k.caches (λ c. join_below k.sets (λ s. join_below k.ways (λ w. line_text c s w ((caches c).lines s w))))
 
 abbrev pub end_text : Bool → List ℕ
 end_text complete = if complete then codes "end rested\n" else codes "end unrested\n"
 
 abbrev pub report_text : Shape → State → Counts → Bool → List ℕ
-report_text k s n complete = flat_map done_text s.history ++ events_text n ++ messages_text n ++ lines_text k s.lines ++ end_text complete
+report_text k s n complete = flat_map done_text s.history ++ events_text n ++ messages_text n ++ lines_text k s.caches ++ end_text complete
 
 -- The bytes are the report of the events: its last line says whether they do all of the trace.
 abbrev pub IsReport : Shape → List Form → List (ℕ × Op) → List Event → List ℕ → Type 0

@@ -1,10 +1,3 @@
-ghost use Rattle.std.specs.Prelude.{◌≡◌, ℕ, ◌+◌, ◌^◌, option_to_list};
-ghost use Rattle.bk_system.specs.Report.{no_counts, count_event, count_network, count_sent};
-ghost use Rattle.bk_system.specs.Counted.{IsAtMost};
-
-use crate::event::Event;
-use bk_msg::{Network, Row};
-
 /// How many events of each kind were enabled, and how many messages they sent in each network.
 #[derive(Clone, Copy, Debug, PartialEq, Eq)]
 pub struct Counts {
@@ -19,65 +12,4 @@ pub struct Counts {
     pub responses: u64,
     pub memouts: u64,
     pub memins: u64,
-}
-
-impl Counts {
-    /// No event and no message.
-    pub(crate) fn new() -> Counts
-        ensures { result ≡ no_counts }
-    {
-        Counts {
-            issue: 0,
-            command: 0,
-            fill: 0,
-            memory: 0,
-            engine: 0,
-            requests: 0,
-            commands: 0,
-            fills: 0,
-            responses: 0,
-            memouts: 0,
-            memins: 0,
-        }
-    }
-
-    /// Counts an event that was enabled, by its kind.
-    pub(crate) fn add_event(&mut self, event: &Event)
-        requires { IsAtMost (2 ^ 63) (2 ^ 63) self.old }
-        ensures value { self.new ≡ count_event self.old event.now }
-        ensures grows { (events messages : ℕ) → IsAtMost events messages self.old → IsAtMost (events + 1) messages self.new }
-    {
-        match event {
-            Event::Issue { .. } => self.issue += 1,
-            Event::Command { .. } => self.command += 1,
-            Event::Fill { .. } => self.fill += 1,
-            Event::Memory => self.memory += 1,
-            Event::Engine { .. } => self.engine += 1,
-        }
-    }
-
-    /// Counts the message that an event sent, if any, by its network.
-    pub(crate) fn add_sent(&mut self, sent: &Option<Row>)
-        requires { IsAtMost (2 ^ 63) (2 ^ 63) self.old }
-        ensures value { self.new ≡ count_sent self.old (option_to_list sent.now) }
-        ensures grows { (events messages : ℕ) → IsAtMost events messages self.old → IsAtMost events (messages + 1) self.new }
-    {
-        if let Some(row) = sent {
-            self.add_message(row.network());
-        }
-    }
-
-    fn add_message(&mut self, network: Network)
-        requires { IsAtMost (2 ^ 63) (2 ^ 63) self.old }
-        ensures { self.new ≡ count_network self.old network }
-    {
-        match network {
-            Network::Request => self.requests += 1,
-            Network::Command => self.commands += 1,
-            Network::Fill => self.fills += 1,
-            Network::Response => self.responses += 1,
-            Network::Memout => self.memouts += 1,
-            Network::Memin => self.memins += 1,
-        }
-    }
 }

@@ -1,21 +1,5 @@
-ghost use Rattle.std.specs.Prelude.{◌≡◌, ◌≤◌, length, IfOk, IfErr};
-ghost use Rattle.bk_system.specs.Runs.{run};
-ghost use Rattle.bk_system.specs.Greedy.{budget_of, greedy};
-ghost use Rattle.bk_system.specs.Serial.{IsEnded};
-ghost use Rattle.bk_system.specs.Faults.{IsFault};
-ghost use Rattle.bk_system.specs.Systems.{state_of};
-
-use crate::complete::is_done;
 use crate::event::Event;
-use crate::system::System;
-use bk_base::Config;
-use bk_image::Image;
-use bk_isa::Instr;
-use bk_trace::Trace;
-use std::alloc::{AllocError, Global};
 
-/// The events of a run that has ended, and whether they do all of the trace: each cache has completed its
-/// whole trace in order, and the system has come to rest.
 #[derive(Debug, Drop)]
 pub struct RunEnd {
     pub events: Vec<Event>,
@@ -28,77 +12,4 @@ pub enum SerialFault {
     /// As many events as the budget were made, and one more is enabled.
     Spent(RunEnd),
     Memory,
-}
-
-/// How many events a run of so many instructions and operations is given.
-pub fn budget(config: Config, instructions: u64, operations: u64) -> u64
-    requires few_instructions { instructions ≤ 256 }
-    requires few_operations { operations ≤ 10000 }
-    ensures { result ≡ budget_of config instructions operations }
-{
-    operations * (4 * config.caches as u64 + 32) * (instructions + 4) + instructions
-}
-
-/// A run of the greedy schedule so far: the system after the events.
-#[derive(Drop)]
-struct Made {
-    system: System,
-    events: Vec<Event>,
-}
-
-/// Makes the greedy events, to their end or as many as the budget.
-fn make_events(
-    alloc: Global,
-    program: &[Instr],
-    trace: &Trace,
-    budget: u64,
-) -> Result<Made, AllocError>
-    requires { length program.now ≤ 256 }
-    ensures events { IfOk result (λ made. made.events.items ≡ greedy trace.now.config program.now trace.now.lines budget) }
-    ensures state { IfOk result (λ made. state_of made.system ≡ run trace.now.config program.now made.events.items) }
-    ensures config { IfOk result (λ made. made.system.config ≡ trace.now.config) }
-{
-    let mut system = System::make(alloc, trace.config())?;
-    let mut events = Vec::new(alloc);
-    for _ in 0..budget {
-        let Some(event) = system.least_enabled(program, trace) else {
-            return Ok(Made { system, events });
-        };
-        match system.happen(program, &event) {
-            Ok(_) => {}
-            Err(e) => return Err(e),
-        }
-        match events.push(event) {
-            Ok(()) => {}
-            Err(_) => return Err(AllocError),
-        }
-    }
-    Ok(Made { system, events })
-}
-
-/// Runs the greedy schedule of an image over a trace, to its end or to the budget.
-pub fn serial(
-    alloc: Global,
-    image: &Image,
-    trace: &Trace,
-    budget: u64,
-) -> Result<RunEnd, SerialFault>
-    ensures ok { IfOk result (λ end. IsEnded trace.now.config image.now.instrs trace.now.lines budget end.events.items end.complete) }
-    ensures fault { IfErr result (IsFault trace.now.config image.now.instrs trace.now.lines budget) }
-{
-    let program = image.instrs();
-    let made = match make_events(alloc, program, trace, budget) {
-        Ok(made) => made,
-        Err(_) => return Err(SerialFault::Memory),
-    };
-    let Made { system, events } = made;
-    let rested = system.rested(program);
-    let complete = match is_done(alloc, trace, &events, &system.history, rested) {
-        Ok(complete) => complete,
-        Err(_) => return Err(SerialFault::Memory),
-    };
-    match system.least_enabled(program, trace) {
-        None => Ok(RunEnd { events, complete }),
-        Some(_) => Err(SerialFault::Spent(RunEnd { events, complete })),
-    }
 }
