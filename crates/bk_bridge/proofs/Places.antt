@@ -1,0 +1,45 @@
+-- Addresses: an address is its group, tag and place, and a block's first word is at the block's group and tag.
+use Rattle.std.proofs.Common.{◌≡◌, ℕ, ◌+◌, ◌*◌, ◌/◌, ◌%◌, ◌^◌, ◌<◌, ◌≤◌, Bool, true, false, cond, eqb, ltb, ◌&&◌, refl, sym, ap, ◌∙◌, arith, div-add-mod'}
+use Rattle.std.proofs.lemmas.Bool.Decides.{nat_tests}
+use Rattle.bk_base.specs.Places.{Shape, InProfile, IsAddr, is_set_count, block_of, block_start, word_of, group_of, tag_at, address_in}
+
+pub sets_pos : (k : Shape) → InProfile k → 0 < k.sets
+sets_pos k p = lem k.sets p.sets
+  where
+    lem : (n : ℕ) → is_set_count n ≡ true → 0 < n
+    lem n e = grind (arith, nat_tests)
+
+start-block : (a : ℕ) → a / 64 * 64 / 64 ≡ a / 64
+start-block a = omega arith
+
+pub block-start : (a : ℕ) → block_of (block_start a) ≡ block_of a
+block-start a = start-block a
+
+pub group-start : (k : Shape) (a : ℕ) → group_of k (block_start a) ≡ group_of k a
+group-start k a = ap (λ (b : ℕ). b % k.sets) (block-start a)
+
+pub tag-start : (k : Shape) (a : ℕ) → tag_at k (block_start a) ≡ tag_at k a
+tag-start k a = ap (λ (b : ℕ). b / k.sets) (block-start a)
+
+pub start_IsAddr : (a : ℕ) → IsAddr a → IsAddr (block_start a)
+start_IsAddr a h = record { below = omega arith; aligned = omega arith }
+
+-- two blocks are one where group and tag are the same
+pub block_by_parts : (s a b : ℕ) → 0 < s → eqb a b ≡ (eqb (a % s) (b % s) && eqb (a / s) (b / s))
+block_by_parts s a b l = go (eqb a b) refl (eqb (a % s) (b % s)) refl (eqb (a / s) (b / s)) refl
+  where
+    parts : a % s ≡ b % s → a / s ≡ b / s → a ≡ b
+    parts e f = sym (div-add-mod' a s) ∙ ap (λ (q : ℕ). q * s + a % s) f ∙ ap (λ (r : ℕ). b / s * s + r) e ∙ div-add-mod' b s
+    go : (x : Bool) → eqb a b ≡ x → (y : Bool) → eqb (a % s) (b % s) ≡ y → (z : Bool) → eqb (a / s) (b / s) ≡ z → x ≡ (y && z)
+    go x p y q z r = grind (arith, nat_tests, parts)
+
+-- the address of a word, by its parts
+pub address-block : (s b i : ℕ) → i < 8 → (b * 64 + i * 8) / 64 ≡ b
+address-block s b i l = omega arith
+
+pub address-word : (b i : ℕ) → i < 8 → (b * 64 + i * 8) / 8 % 8 ≡ i
+address-word b i l = omega arith
+
+pub address-aligned : (b i : ℕ) → (b * 64 + i * 8) % 8 ≡ 0
+address-aligned b i = omega arith
+
