@@ -34,8 +34,8 @@ block_by_parts s a b l = go (eqb a b) refl (eqb (a % s) (b % s)) refl (eqb (a / 
     go x p y q z r = grind (arith, nat_tests, parts)
 
 -- the address of a word, by its parts
-pub address-block : (s b i : ℕ) → i < 8 → (b * 64 + i * 8) / 64 ≡ b
-address-block s b i l = omega arith
+pub address-block : (b i : ℕ) → i < 8 → (b * 64 + i * 8) / 64 ≡ b
+address-block b i l = omega arith
 
 pub address-word : (b i : ℕ) → i < 8 → (b * 64 + i * 8) / 8 % 8 ≡ i
 address-word b i l = omega arith
