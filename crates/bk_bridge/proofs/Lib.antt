@@ -4,3 +4,6 @@ pub mod MemoryWrites
 pub mod Same
 pub mod Channels
 pub mod MemoryEvent
+pub mod Caches
+pub mod Sent
+pub mod IssueRows

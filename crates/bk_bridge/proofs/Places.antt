@@ -43,3 +43,5 @@ address-word b i l = omega arith
 pub address-aligned : (b i : ℕ) → (b * 64 + i * 8) % 8 ≡ 0
 address-aligned b i = omega arith
 
+pub word-below : (a : ℕ) → word_of a < 8
+word-below a = omega arith
