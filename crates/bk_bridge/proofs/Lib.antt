@@ -7,3 +7,5 @@ pub mod MemoryEvent
 pub mod Caches
 pub mod Sent
 pub mod IssueRows
+pub mod Agrees
+pub mod IssueEvent
