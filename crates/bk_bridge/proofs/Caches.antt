@@ -9,7 +9,7 @@ use Rattle.bk_lce.specs.declared.line.Line.{Line}
 use Rattle.bk_lce.specs.CacheState.{CacheState, to_front, used}
 use Rattle.bk_lce.specs.CacheTable as table
 use Rattle.bk_machine.specs.Tables.{put2}
-use Rattle.bk_machine.specs.Entries.{Entry, wiped}
+use Rattle.bk_machine.specs.Entries.{Entry, wiped, wipe}
 use Rattle.bk_machine.specs.Products.{words_of}
 use Rattle.bk_machine.specs.Steps.{without}
 use Rattle.bk_bridge.specs.Worlds.{entry_of}
@@ -85,3 +85,14 @@ front v xs = ap (λ (ys : List ℕ). v ∷ ys) (filter-without v xs)
 
 pub used-recency : (n : CacheState) (s v g : ℕ) → (used n s v).recency g ≡ put n.recency s (v ∷ without v (n.recency s)) g
 used-recency n s v g = ap (λ (ys : List ℕ). put n.recency s ys g) (front v (n.recency s))
+
+-- cache c drops a tag of a group
+pub table-wiped : (m : ℕ → CacheState) (c s t : ℕ) (n : CacheState) → ((g w : ℕ) → entry_of (n.lines g w) ≡ put {X = ℕ → Entry} (λ g w. entry_of ((m c).lines g w)) s (λ w. wiped t (entry_of ((m c).lines s w))) g w)
+    → ◌≡◌ {A = ℕ → ℕ → ℕ → Entry} (λ g i w. entry_of ((put m c n i).lines g w)) (put (λ g i w. entry_of ((m i).lines g w)) s (wipe c t (λ i w. entry_of ((m i).lines s w))))
+unfolding put wipe
+table-wiped m c s t n e =
+    ap (λ (h : ℕ → ℕ → ℕ → Entry). λ g i w. h i g w) (put-of {Y = ℕ → ℕ → Entry} (λ y g w. entry_of (y.lines g w)) m c n (λ g w. entry_of (n.lines g w)) refl) ∙ fun_ext (λ g. fun_ext (λ i. fun_ext (λ w. at g i w)))
+  where
+    at : (g i w : ℕ) → put {X = ℕ → ℕ → Entry} (λ i g w. entry_of ((m i).lines g w)) c (λ g w. entry_of (n.lines g w)) i g w
+        ≡ put (λ g i w. entry_of ((m i).lines g w)) s (wipe c t (λ i w. entry_of ((m i).lines s w))) g i w
+    at g i w = grind (arith, nat_tests, e g w)

@@ -9,3 +9,4 @@ pub mod Sent
 pub mod IssueRows
 pub mod Agrees
 pub mod IssueEvent
+pub mod CommandRows

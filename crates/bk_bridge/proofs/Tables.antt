@@ -33,3 +33,12 @@ put-turned m c s v n y e = fun_ext (λ g. fun_ext (λ i. fun_ext (λ w. at g i w
   where
     at : (g i w : ℕ) → put m c n i g w ≡ put (λ g i w. m i g w) s (put2 (λ i w. m i s w) c v y) g i w
     at g i w = grind (arith, nat_tests, e g w)
+
+-- a write of a table of tables, through a function of the values
+pub put-put2 : {X Y : Type 0} (f : X → Y) (m : ℕ → ℕ → X) (a b : ℕ) (v : X) (y : Y) → f v ≡ y
+    → ◌≡◌ {A = ℕ → ℕ → Y} (λ i j. f (put m a (put (m a) b v) i j)) (put2 (λ i j. f (m i j)) a b y)
+unfolding put put2
+put-put2 f m a b v y e = fun_ext (λ i. fun_ext (λ j. at i j))
+  where
+    at : (i j : ℕ) → f (put m a (put (m a) b v) i j) ≡ put2 (λ i j. f (m i j)) a b y i j
+    at i j = grind (arith, nat_tests, e)
