@@ -10,3 +10,5 @@ pub mod IssueRows
 pub mod Agrees
 pub mod IssueEvent
 pub mod CommandRows
+pub mod Gates
+pub mod Grants

@@ -10,7 +10,7 @@ use Rattle.bk_system.specs.Memory.{with_block, words_from}
 use Rattle.bk_machine.specs.Products.{words_of}
 use Rattle.bk_machine.specs.Words.{write_block, write_word}
 use Rattle.bk_bridge.specs.Worlds.{word_at}
-use Rattle.bk_bridge.proofs.Places.{block_by_parts, address-block, address-word, address-aligned}
+use Rattle.bk_bridge.proofs.Places.{block_by_parts, same_word, address-block, address-word, address-aligned}
 
 -- a block's number, by its parts
 same_block : (k : Shape) (s t addr : ℕ) → s < k.sets → eqb (t * k.sets + s) (block_of addr) ≡ (eqb s (group_of k addr) && eqb t (tag_at k addr))
@@ -39,13 +39,6 @@ block_written k memory addr ws l e = fun_ext (λ s. fun_ext (λ t. fun_ext (λ i
     at : (s t i : ℕ) → word_at k (with_block memory addr ws) s t i
         ≡ put (word_at k memory) (group_of k addr) (write_block (word_at k memory (group_of k addr)) (tag_at k addr) (words_of ws)) s t i
     at s t i = grind (arith, nat_tests, block-at k memory addr ws s t i, get_or_past ws i 0, inside)
-
--- two words are one where their parts are
-same_word : (a addr : ℕ) → a % 8 ≡ 0 → addr % 8 ≡ 0 → eqb a addr ≡ (eqb (a / 64) (addr / 64) && eqb (a / 8 % 8) (addr / 8 % 8))
-same_word a addr e f = grind (arith, nat_tests, lem)
-  where
-    lem : a / 64 ≡ addr / 64 → a / 8 % 8 ≡ addr / 8 % 8 → a ≡ addr
-    lem g h = omega arith
 
 word-at : (k : Shape) (memory : ℕ → ℕ) (addr n s t i : ℕ) → addr % 8 ≡ 0 → s < k.sets → i < 8
     → put memory addr n (address_in k s t + i * 8)

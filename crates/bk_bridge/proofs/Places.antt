@@ -45,3 +45,24 @@ address-aligned b i = omega arith
 
 pub word-below : (a : ℕ) → word_of a < 8
 word-below a = omega arith
+
+-- two blocks are one where group and tag are the same, of addresses
+pub blocks : (k : Shape) (a b : ℕ) → 0 < k.sets → eqb (block_of a) (block_of b) ≡ (eqb (group_of k a) (group_of k b) && eqb (tag_at k a) (tag_at k b))
+blocks k a b l = block_by_parts k.sets (block_of a) (block_of b) l
+
+-- two words are one where their parts are
+pub same_word : (a addr : ℕ) → a % 8 ≡ 0 → addr % 8 ≡ 0 → eqb a addr ≡ (eqb (a / 64) (addr / 64) && eqb (a / 8 % 8) (addr / 8 % 8))
+same_word a addr e f = grind (arith, nat_tests, lem)
+  where
+    lem : a / 64 ≡ addr / 64 → a / 8 % 8 ≡ addr / 8 % 8 → a ≡ addr
+    lem g h = omega arith
+
+and-assoc : (x y z : Bool) → ((x && y) && z) ≡ (x && (y && z))
+and-assoc true y z = refl
+and-assoc false y z = refl
+
+pub words_apart : (k : Shape) (a b : ℕ) → 0 < k.sets → IsAddr a → IsAddr b
+    → eqb a b ≡ (eqb (group_of k a) (group_of k b) && (eqb (tag_at k a) (tag_at k b) && eqb (word_of a) (word_of b)))
+words_apart k a b l f g =
+    same_word a b f.aligned g.aligned ∙ ap (λ (y : Bool). y && eqb (word_of a) (word_of b)) (blocks k a b l)
+        ∙ and-assoc (eqb (group_of k a) (group_of k b)) (eqb (tag_at k a) (tag_at k b)) (eqb (word_of a) (word_of b))
