@@ -12,3 +12,4 @@ pub mod IssueEvent
 pub mod CommandRows
 pub mod Gates
 pub mod Grants
+pub mod CommandOps
