@@ -13,3 +13,5 @@ pub mod CommandRows
 pub mod Gates
 pub mod Grants
 pub mod CommandOps
+pub mod CommandEvent
+pub mod FillEvent
