@@ -36,10 +36,6 @@ use Rattle.bk_bridge.proofs.Grants.{load_granted, store_granted}
 module _ (k : Shape) (p : State) (x : Option (ℕ × Transaction)) (c from : ℕ) (C : ℕ → ℕ → List (ℕ × FillMessage)) (rest : List (ℕ × FillMessage)) (sets : 0 < k.sets)
     (e : (world_of k p x).fill ≡ put2 C c from rest) where
 
-  -- before the head was taken
-  before : World
-  before = record (world_of k p x) { fill = C }
-
   -- what is left, with the channel's rest
   with-rest : (v w : World) → v ≡ w → w.fill ≡ (world_of k p x).fill → v ≡ record w { fill = put2 C c from rest }
   with-rest v w f g = f ∙ ap (λ (y : ℕ → ℕ → List (ℕ × FillMessage)). record w { fill = y }) (g ∙ e)

@@ -15,3 +15,6 @@ pub mod Grants
 pub mod CommandOps
 pub mod CommandEvent
 pub mod FillEvent
+pub mod Opening
+pub mod Formed
+pub mod TakenFormed
