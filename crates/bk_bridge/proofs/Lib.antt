@@ -18,3 +18,5 @@ pub mod FillEvent
 pub mod Opening
 pub mod Formed
 pub mod TakenFormed
+pub mod Keeps
+pub mod Law
