@@ -20,3 +20,7 @@ pub mod Formed
 pub mod TakenFormed
 pub mod Keeps
 pub mod Law
+pub mod Tags
+pub mod CoreFormed
+pub mod SendsFormed
+pub mod EngineEvent
