@@ -1,4 +1,4 @@
--- Each event of a cache or the memory leaves a well formed state.
+-- Each event leaves a well formed state, and each list of events.
 use Rattle.std.proofs.Common.{◌≡◌, ℕ, ltb, ◌&&◌, Bool, true, false, cond, refl, List, [], ◌∷◌, ◌++◌, drop, Option, Some, None, IfSome, option_to_list, append-nil, subst, sym}
 use Rattle.bk_base.specs.Places.{Shape, IsAddr}
 use Rattle.bk_isa.specs.declared.form.Form.{Form}
@@ -12,11 +12,11 @@ use Rattle.bk_system.specs.declared.event.Event.TheVariants as events
 use Rattle.bk_system.specs.State.{State}
 use Rattle.bk_system.specs.Memory.{answer_to}
 use Rattle.bk_system.specs.Events.{Happening, first, takes, accessed, command_of, fill_of, without_command, without_fill}
-use Rattle.bk_system.specs.Runs.{state_after_row, after}
-use Rattle.bk_bridge.specs.Formed.{WellFormed, AreOf, IsOf, IsLawful}
-use Rattle.bk_bridge.specs.Bridge.{IsQuiet}
+use Rattle.bk_system.specs.Runs.{state_after_row, after, run_from}
+use Rattle.bk_bridge.specs.Formed.{WellFormed, AreOf, IsOf, IsLawful, AreLawful}
 use Rattle.bk_bridge.proofs.Places.{start_IsAddr}
 use Rattle.bk_bridge.proofs.Formed.{put-all, guard, push, without_head}
+use Rattle.bk_bridge.proofs.EngineEvent.{engine-keeps}
 use Rattle.bk_bridge.proofs.TakenFormed.{FormedTaken, FormedCache, taken_keeps, issue-formed, command-formed, fill-formed}
 
 cache-formed : (k : Shape) (n : State) (c : ℕ) → WellFormed k n → FormedCache (n.caches c)
@@ -89,15 +89,19 @@ memory-keeps k n (m ∷ ms) h f g = record {
   engine = f.engine;
 }
 
--- AN EVENT
+-- AN EVENT, AND A LIST OF THEM
 
-pub event-keeps : (k : Shape) (program : List Form) (n : State) (e : Event) → WellFormed k n → IsLawful e → IsQuiet e → WellFormed k (after k program n e)
-event-keeps k program n (events.Issue c op way) f l q =
+pub event-keeps : (k : Shape) (program : List Form) (n : State) (e : Event) → WellFormed k n → IsLawful e → WellFormed k (after k program n e)
+event-keeps k program n (events.Issue c op way) f l =
     row-keeps k n n c _ f f (guard FormedTaken (ltb c k.caches && ltb way k.ways) _ (issue-formed k (n.caches c) c op way (cache-formed k n c f) l))
-event-keeps k program n (events.Command c) f l q =
+event-keeps k program n (events.Command c) f l =
     row-keeps k n (without_command n c) c _ f (command-left k n c f) (guard FormedTaken (ltb c k.caches) _ (command_head k n c (n.command c) f (f.command c)))
-event-keeps k program n (events.Fill to from) f l q =
+event-keeps k program n (events.Fill to from) f l =
     row-keeps k n (without_fill n to from) to _ f (fill-left k n to from f)
     (guard FormedTaken (ltb to k.caches && ltb from k.caches) _ (fill_head k n to (n.fill to from) f (f.fill to from)))
-event-keeps k program n events.Memory f l q = memory-keeps k n n.memout f.memout f (without_head networks.Memout n.memout f.memout)
-event-keeps k program n (events.Engine choice) f l q = absurd q
+event-keeps k program n events.Memory f l = memory-keeps k n n.memout f.memout f (without_head networks.Memout n.memout f.memout)
+event-keeps k program n (events.Engine choice) f l = engine-keeps k program n choice f
+
+pub run-keeps : (k : Shape) (program : List Form) (n : State) (es : List Event) → WellFormed k n → AreLawful es → WellFormed k (run_from k program n es)
+run-keeps k program n [] f l = f
+run-keeps k program n (e ∷ es) f l = run-keeps k program (after k program n e) es (event-keeps k program n e f l.0) l.1

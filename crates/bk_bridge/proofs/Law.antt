@@ -44,16 +44,16 @@ pub run-is : (k : Shape) (program : List Form) (n : State) (x : Option (ℕ × T
 run-is k program n x [] f l q = record { left = refl; formed = f }
 run-is k program n x (events.Issue c op way ∷ es) f l q =
     before k program n x (events.Issue c op way) _ es (issue_step k program n x c op way f) refl
-    (run-is k program (after k program n (events.Issue c op way)) x es (event-keeps k program n (events.Issue c op way) f l.0 q.0) l.1 q.1)
+    (run-is k program (after k program n (events.Issue c op way)) x es (event-keeps k program n (events.Issue c op way) f l.0) l.1 q.1)
 run-is k program n x (events.Command c ∷ es) f l q =
     before k program n x (events.Command c) _ es (command_step k program n x c f) refl
-    (run-is k program (after k program n (events.Command c)) x es (event-keeps k program n (events.Command c) f l.0 q.0) l.1 q.1)
+    (run-is k program (after k program n (events.Command c)) x es (event-keeps k program n (events.Command c) f l.0) l.1 q.1)
 run-is k program n x (events.Fill to from ∷ es) f l q =
     before k program n x (events.Fill to from) _ es (fill_step k program n x to from f) refl
-    (run-is k program (after k program n (events.Fill to from)) x es (event-keeps k program n (events.Fill to from) f l.0 q.0) l.1 q.1)
+    (run-is k program (after k program n (events.Fill to from)) x es (event-keeps k program n (events.Fill to from) f l.0) l.1 q.1)
 run-is k program n x (events.Memory ∷ es) f l q =
     before k program n x events.Memory _ es (memory_step k program n x f) refl
-    (run-is k program (after k program n events.Memory) x es (event-keeps k program n events.Memory f l.0 q.0) l.1 q.1)
+    (run-is k program (after k program n events.Memory) x es (event-keeps k program n events.Memory f l.0) l.1 q.1)
 run-is k program n x (events.Engine choice ∷ es) f l q = absurd q.0
 
 pub run-from_opening : (k : Shape) (program : List Form) (es : List Event) → InProfile k → AreLawful es → AreQuiet es

@@ -55,9 +55,12 @@ abbrev pub EventsAreSteps : Type 0
 EventsAreSteps = (k : Shape) (program : List Form) (n : State) (x : Option (ℕ × Transaction)) (e : Event) (m : machine.Event)
     → WellFormed k n → IsLawful e → event_of k e ≡ Some m → IsStep k program n x e m
 
--- each event leaves a well formed state
+-- each event leaves a well formed state, the engine's too, and so does each list of them
 abbrev pub EventsKeepForm : Type 0
-EventsKeepForm = (k : Shape) (program : List Form) (n : State) (e : Event) → WellFormed k n → IsLawful e → IsQuiet e → WellFormed k (after k program n e)
+EventsKeepForm = (k : Shape) (program : List Form) (n : State) (e : Event) → WellFormed k n → IsLawful e → WellFormed k (after k program n e)
+
+abbrev pub RunsKeepForm : Type 0
+RunsKeepForm = (k : Shape) (program : List Form) (n : State) (es : List Event) → WellFormed k n → AreLawful es → WellFormed k (run_from k program n es)
 
 -- runs of them, from a well formed state on and from the opening
 abbrev pub RunsAreRuns : Type 0

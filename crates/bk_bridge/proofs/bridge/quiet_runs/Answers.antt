@@ -1,5 +1,5 @@
 use Rattle.bk_bridge.proofs.Opening.{opens_empty, opens_formed}
-use Rattle.bk_bridge.proofs.Keeps.{event-keeps}
+use Rattle.bk_bridge.proofs.Keeps.{event-keeps, run-keeps}
 use Rattle.bk_bridge.proofs.Law.{event_step, run-is, run-from_opening}
 use Rattle.bk_bridge.proofs.bridge.quiet_runs.Goals as goal
 
@@ -12,8 +12,11 @@ returns-clause-opens_formed c = opens_formed
 pub returns-clause-steps : goal.returns-clause-steps
 returns-clause-steps c = event_step
 
-pub returns-clause-form : goal.returns-clause-form
-returns-clause-form c = event-keeps
+pub returns-clause-events_form : goal.returns-clause-events_form
+returns-clause-events_form c = event-keeps
+
+pub returns-clause-runs_form : goal.returns-clause-runs_form
+returns-clause-runs_form c = run-keeps
 
 pub returns-clause-runs : goal.returns-clause-runs
 returns-clause-runs c = run-is
