@@ -1,7 +1,7 @@
 -- A row of the caches' table beside a step of the machine: there are both, and they leave the same, or there is neither.
-use Rattle.std.proofs.Common.{◌≡◌, ℕ, zero, suc, Bool, true, false, cond, refl, ap, ◌∙◌, arith, Option, Some, None, is_some}
+use Rattle.std.proofs.Common.{◌≡◌, ℕ, zero, suc, Bool, true, false, cond, refl, arith, Option, Some, None, is_some}
 use Rattle.bk_base.specs.Places.{Shape}
-use Rattle.bk_base.specs.Counting.{first_below, least_below, or_else}
+use Rattle.bk_base.specs.Counting.{least_below, or_else}
 use Rattle.bk_lce.specs.CacheTable.{Taken}
 use Rattle.bk_lce.specs.CacheState.{found}
 use Rattle.bk_base.specs.Places.{group_of, tag_at}

@@ -1,10 +1,9 @@
 -- One cache's state written, as the machine sees it: lines by group, cache and way, recency by group and cache.
-use Rattle.std.proofs.Common.{◌≡◌, ℕ, ◌<◌, Bool, true, false, cond, eqb, ◌&&◌, not, refl, sym, ap, ◌∙◌, arith, List, [], ◌∷◌, length, get_or, set, filter, get_or-set_same, get_or-set_other}
+use Rattle.std.proofs.Common.{◌≡◌, ℕ, ◌<◌, cond, eqb, not, refl, ap, ◌∙◌, arith, List, [], ◌∷◌, Option, length, get_or, set, filter, get_or-set_same, get_or-set_other}
 use Rattle.std.proofs.lemmas.Bool.Decides.{nat_tests}
-use Rattle.std.proofs.Math.ListN.{get_or-replicate}
 use mathlib.Core.Path.{fun_ext}
+use Rattle.bk_base.specs.Places.{Shape}
 use Rattle.bk_base.specs.Tables.{put}
-use Rattle.bk_base.specs.declared.coh.Coh.{Coh}
 use Rattle.bk_lce.specs.declared.line.Line.{Line}
 use Rattle.bk_lce.specs.CacheState.{CacheState, to_front, used}
 use Rattle.bk_lce.specs.CacheTable as table
@@ -12,8 +11,22 @@ use Rattle.bk_machine.specs.Tables.{put2}
 use Rattle.bk_machine.specs.Entries.{Entry, wiped, wipe}
 use Rattle.bk_machine.specs.Products.{words_of}
 use Rattle.bk_machine.specs.Steps.{without}
-use Rattle.bk_bridge.specs.Worlds.{entry_of}
+use Rattle.bk_machine.specs.Transactions.{InProgress}
+use Rattle.bk_bridge.specs.Worlds.{entry_of, begun_of}
 use Rattle.bk_bridge.proofs.Tables.{put-same, put-of, put-turned}
+
+-- what the machine sees of a cache's state
+abbrev pub seen_entries : CacheState → ℕ → ℕ → Entry
+seen_entries n s w = entry_of (n.lines s w)
+
+abbrev pub seen_words : CacheState → ℕ → ℕ → ℕ → ℕ
+seen_words n s w = words_of (n.lines s w).words
+
+abbrev pub seen_recency : CacheState → ℕ → List ℕ
+seen_recency n = n.recency
+
+abbrev pub seen_busy : Shape → CacheState → Option (ℕ × InProgress)
+seen_busy k n = begun_of k n.busy
 
 -- WRITES OF ONE CACHE, for anything that is read of a cache's state by group and way, or by group
 

@@ -1,5 +1,5 @@
 -- What an instruction leaves of the engine's own copies is well formed.
-use Rattle.std.proofs.Common.{◌≡◌, ℕ, Bool, true, false, cond, refl, List, [], ◌∷◌, length, Option, Some, None, IfSome, ◌==◌}
+use Rattle.std.proofs.Common.{◌≡◌, ℕ, Bool, List, length, Option, Some, None, IfSome}
 use Rattle.bk_base.specs.Places.{Shape, InProfile, IsAddr}
 use Rattle.bk_isa.specs.declared.form.Form.{Form}
 use Rattle.bk_isa.specs.declared.form.Form.TheVariants.{Add, Sub, And, Or, Xor, Shl, Shr, Addi, Not, Neg, Mov, Movi, Mova, Movs, Movw, Movk, Sf, Cf, Nf, Movf, Andf, Orf, Rdw, Gad, Fin, Wfq, Popq, Defer, Inv, Memwb}

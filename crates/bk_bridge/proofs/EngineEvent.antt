@@ -1,7 +1,6 @@
 -- An event of the engine leaves a well formed state.
-use Rattle.std.proofs.Common.{◌≡◌, ℕ, Bool, true, false, cond, refl, List, [], ◌∷◌, ◌++◌, drop, Option, Some, None, IfSome, ◌==◌, slice_get}
+use Rattle.std.proofs.Common.{◌≡◌, ℕ, Bool, true, false, cond, refl, List, [], ◌∷◌, ◌++◌, Option, Some, None, IfSome, ◌==◌, slice_get}
 use Rattle.bk_base.specs.Places.{Shape, InProfile}
-use Rattle.bk_base.specs.Tables.{put}
 use Rattle.bk_isa.specs.declared.form.Form.{Form}
 use Rattle.bk_msg.specs.declared.row.Row.{Row}
 use Rattle.bk_msg.specs.declared.row.Network.{Network}
@@ -9,11 +8,11 @@ use Rattle.bk_msg.specs.declared.row.Network.TheVariants as networks
 use Rattle.bk_msg.specs.Networks.{network_of, receiver_of}
 use Rattle.bk_engine.specs.declared.parts.Choice.{Choice}
 use Rattle.bk_engine.specs.Core.{EngineState}
-use Rattle.bk_engine.specs.Step.{Outcome, ran, ran_at, runs_to}
+use Rattle.bk_engine.specs.Step.{Outcome, ran_at, runs_to}
 use Rattle.bk_system.specs.State.{State}
-use Rattle.bk_system.specs.Events.{Happening, first, added_if, is_command, is_memout, offered, offered_of, commands_with, memout_with, heads_left, memin_left, with_outcome, can_run, engine_row}
+use Rattle.bk_system.specs.Events.{first, added_if, is_command, is_memout, offered, commands_with, memout_with, heads_left, memin_left, with_outcome, can_run, engine_row}
 use Rattle.bk_system.specs.Runs.{state_after_row}
-use Rattle.bk_bridge.specs.Formed.{WellFormed, WellFormedEngine, AreOf, IsOf, IsWhole}
+use Rattle.bk_bridge.specs.Formed.{WellFormed, WellFormedEngine, AreOf, IsWhole}
 use Rattle.bk_bridge.proofs.Formed.{cond-all, put-all, push, without_head}
 use Rattle.bk_bridge.proofs.CoreFormed.{engine-formed}
 use Rattle.bk_bridge.proofs.SendsFormed.{AreWhole, sends-whole}
@@ -92,4 +91,4 @@ pub engine-keeps : (k : Shape) (program : List Form) (n : State) (choice : Choic
 engine-keeps k program n choice f =
     row-keeps k n (runs_to k n.engine program choice (offered n choice)) (can_run k program n choice) f
     (outcome-keeps k n (runs_to k n.engine program choice (offered n choice)) f
-        (ran-formed k n.engine (slice_get program n.engine.core.place) choice (offered n choice) f.profile f.engine (offered-whole k n choice f)))
+    (ran-formed k n.engine (slice_get program n.engine.core.place) choice (offered n choice) f.profile f.engine (offered-whole k n choice f)))

@@ -1,8 +1,8 @@
 -- Fill: the head of the channel from another cache is a block that is granted, as by Blk.
-use Rattle.std.proofs.Common.{◌≡◌, ℕ, ◌<◌, ltb, eqb, ◌&&◌, Bool, true, false, cond, refl, sym, ap, ◌∙◌, List, [], ◌∷◌, length, drop, Option, Some, None, eqb-true}
+use Rattle.std.proofs.Common.{◌≡◌, ℕ, ◌<◌, ltb, eqb, ◌&&◌, cond, refl, ap, ◌∙◌, List, [], ◌∷◌, length, drop, Option, Some, None, eqb-true}
 use Rattle.std.specs.List.{filter_map}
 use Rattle.std.proofs.lemmas.Bool.{and_parts}
-use Rattle.bk_base.specs.Places.{Shape, block_of, group_of, tag_at, word_of}
+use Rattle.bk_base.specs.Places.{Shape, block_of, group_of, tag_at}
 use Rattle.bk_base.specs.States.{is_writable}
 use Rattle.bk_base.specs.declared.op.Op.{Op as Operation}
 use Rattle.bk_base.specs.declared.op.Op.TheVariants as ops
@@ -20,7 +20,6 @@ use Rattle.bk_machine.specs.Tables.{put2}
 use Rattle.bk_machine.specs.Messages.{FillMessage}
 use Rattle.bk_machine.specs.Transactions.{Transaction}
 use Rattle.bk_machine.specs.Products.{as_fill, op_of, words_of}
-use Rattle.bk_machine.specs.Steps.{Step, step_after, FillLoads, FillStores}
 use Rattle.bk_machine.specs.CacheTable.{for_busy, fill_row, filled}
 use Rattle.bk_machine.specs.World.{World}
 use Rattle.bk_machine.specs.Runs as machine
@@ -35,16 +34,15 @@ use Rattle.bk_bridge.proofs.Grants.{load_granted, store_granted}
 
 module _ (k : Shape) (p : State) (x : Option (ℕ × Transaction)) (c from : ℕ) (C : ℕ → ℕ → List (ℕ × FillMessage)) (rest : List (ℕ × FillMessage)) (sets : 0 < k.sets)
     (e : (world_of k p x).fill ≡ put2 C c from rest) where
-
   -- what is left, with the channel's rest
   with-rest : (v w : World) → v ≡ w → w.fill ≡ (world_of k p x).fill → v ≡ record w { fill = put2 C c from rest }
   with-rest v w f g = f ∙ ap (λ (y : ℕ → ℕ → List (ℕ × FillMessage)). record w { fill = y }) (g ∙ e)
 
   granted-op : (way addr : ℕ) (state : Coh) (words : List ℕ) (op : Operation) (begun : ℕ) → length words ≡ 8
       → Agrees (left_of k x p c) (record (world_of k p x) { fill = C })
-          (cond (eqb begun way) (table.grant_row k (p.caches c) c way state addr words op) None)
-          (cond (eqb (op_of k op).0 (group_of k addr))
-              (cond (eqb begun way) (fill_row (group_of k addr) c from (record { tag = tag_at k addr; way = way; state = state; words = words_of words }) rest (op_of k op).1) None) None)
+      (cond (eqb begun way) (table.grant_row k (p.caches c) c way state addr words op) None)
+      (cond (eqb (op_of k op).0 (group_of k addr))
+      (cond (eqb begun way) (fill_row (group_of k addr) c from (record { tag = tag_at k addr; way = way; state = state; words = words_of words }) rest (op_of k op).1) None) None)
   granted-op way addr state words (ops.Load at) begun eight =
       gated _ _ (eqb (group_of k at) (group_of k addr)) (eqb begun way) (eqb (tag_at k at) (tag_at k addr)) (eqb (block_of at) (block_of addr)) _ _ _ (blocks k at addr sets)
       (λ f g. with-rest _ _ (load_granted k p x c way at state words (group_of k addr) (tag_at k addr) (eqb-true _ _ f) (eqb-true _ _ g)) refl)
@@ -58,8 +56,8 @@ module _ (k : Shape) (p : State) (x : Option (ℕ × Transaction)) (c from : ℕ
 
   fill_comes : (way addr : ℕ) (state : Coh) (words : List ℕ) (b : Option Begun) → length words ≡ 8
       → Agrees (left_of k x p c) (record (world_of k p x) { fill = C }) (table.granted k (p.caches c) c way state addr words b)
-          (for_busy (group_of k addr) (begun_of k b)
-              (λ o. cond (eqb o.way way) (fill_row (group_of k addr) c from (record { tag = tag_at k addr; way = way; state = state; words = words_of words }) rest o.op) None))
+      (for_busy (group_of k addr) (begun_of k b)
+      (λ o. cond (eqb o.way way) (fill_row (group_of k addr) c from (record { tag = tag_at k addr; way = way; state = state; words = words_of words }) rest o.op) None))
   fill_comes way addr state words None eight = tt
   fill_comes way addr state words (Some b) eight = granted-op way addr state words b.op b.way eight
 

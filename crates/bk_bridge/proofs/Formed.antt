@@ -6,7 +6,6 @@ use Rattle.bk_msg.specs.declared.row.Network.{Network}
 use Rattle.bk_msg.specs.declared.row.Network.TheVariants as networks
 use Rattle.bk_msg.specs.Networks.{network_of, receiver_of}
 use Rattle.bk_lce.specs.declared.line.Line.{Line}
-use Rattle.bk_lce.specs.CacheState.{CacheState, with_line}
 use Rattle.bk_system.specs.Events.{requests_with, responses_with, fills_with, added_if, is_request, is_response, is_fill}
 use Rattle.bk_bridge.specs.Formed.{AreOf, IsOf, IsWhole}
 
@@ -53,6 +52,7 @@ fills-formed c (Some m) channel h f i j = go (network_of m) refl
   where
     added : ℕ → ℕ → List Row
     added = put channel (receiver_of m) (put (channel (receiver_of m)) c (channel (receiver_of m) c ++ m ∷ []))
+
     go : (n : Network) → network_of m ≡ n → AreOf networks.Fill (cond (is_fill n) added channel i j)
     go networks.Fill e =
         put-all (λ (row : ℕ → List Row). (j : ℕ) → AreOf networks.Fill (row j)) channel (receiver_of m) _ f

@@ -1,5 +1,5 @@
 -- The tests in front of a row: the machine asks for group, way and tag one after the other, the system for the way and the block.
-use Rattle.std.proofs.Common.{◌≡◌, ℕ, Bool, true, false, cond, ◌&&◌, refl, sym, ap, ◌∙◌, subst, Option, Some, None}
+use Rattle.std.proofs.Common.{◌≡◌, ℕ, Bool, true, false, cond, ◌&&◌, refl, sym, ap, ◌∙◌, subst, Some, None}
 use Rattle.bk_lce.specs.CacheTable.{Taken}
 use Rattle.bk_machine.specs.CacheTable.{when}
 use Rattle.bk_machine.specs.Steps.{Step, step_after}

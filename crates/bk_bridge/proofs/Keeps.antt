@@ -1,17 +1,16 @@
 -- Each event leaves a well formed state, and each list of events.
-use Rattle.std.proofs.Common.{◌≡◌, ℕ, ltb, ◌&&◌, Bool, true, false, cond, refl, List, [], ◌∷◌, ◌++◌, drop, Option, Some, None, IfSome, option_to_list, append-nil, subst, sym}
-use Rattle.bk_base.specs.Places.{Shape, IsAddr}
+use Rattle.std.proofs.Common.{ℕ, ltb, ◌&&◌, refl, List, [], ◌∷◌, ◌++◌, drop, Option, Some, None, IfSome, option_to_list, append-nil, subst, sym}
+use Rattle.bk_base.specs.Places.{Shape}
 use Rattle.bk_isa.specs.declared.form.Form.{Form}
 use Rattle.bk_msg.specs.declared.row.Row.{Row}
 use Rattle.bk_msg.specs.declared.row.Row.TheVariants as rows
 use Rattle.bk_msg.specs.declared.row.Network.TheVariants as networks
-use Rattle.bk_lce.specs.CacheTable as table
 use Rattle.bk_lce.specs.CacheTable.{Taken}
 use Rattle.bk_system.specs.declared.event.Event.{Event}
 use Rattle.bk_system.specs.declared.event.Event.TheVariants as events
 use Rattle.bk_system.specs.State.{State}
 use Rattle.bk_system.specs.Memory.{answer_to}
-use Rattle.bk_system.specs.Events.{Happening, first, takes, accessed, command_of, fill_of, without_command, without_fill}
+use Rattle.bk_system.specs.Events.{first, takes, accessed, command_of, fill_of, without_command, without_fill}
 use Rattle.bk_system.specs.Runs.{state_after_row, after, run_from}
 use Rattle.bk_bridge.specs.Formed.{WellFormed, AreOf, IsOf, IsLawful, AreLawful}
 use Rattle.bk_bridge.proofs.Places.{start_IsAddr}

@@ -1,24 +1,21 @@
 -- A Memory event: the head of the memory's channel is done. Read, Write and WriteWord.
-use Rattle.std.proofs.Common.{◌≡◌, ℕ, ◌<◌, refl, sym, ap, ◌∙◌, List, [], ◌∷◌, length, Option, Some, None}
-use Rattle.std.specs.List.{filter_map}
-use Rattle.bk_base.specs.Places.{Shape, block_start, group_of, tag_at}
+use Rattle.std.proofs.Common.{ℕ, ◌<◌, refl, List, [], ◌∷◌, Option, Some}
+use Rattle.bk_base.specs.Places.{Shape}
 use Rattle.bk_isa.specs.declared.form.Form.{Form}
 use Rattle.bk_msg.specs.declared.row.Row.{Row}
 use Rattle.bk_msg.specs.declared.row.Row.TheVariants as rows
 use Rattle.bk_msg.specs.declared.row.Network.TheVariants as networks
 use Rattle.bk_system.specs.declared.event.Event.TheVariants as events
-use Rattle.bk_system.specs.Memory.{words_from}
 use Rattle.bk_system.specs.State.{State}
 use Rattle.bk_machine.specs.Transactions.{Transaction}
-use Rattle.bk_machine.specs.Products.{words_of, as_to_memory, as_block}
+use Rattle.bk_machine.specs.Products.{as_block}
 use Rattle.bk_machine.specs.Runs as machine
-use Rattle.bk_bridge.specs.Worlds.{world_of, word_at}
 use Rattle.bk_bridge.specs.Formed.{AreOf, IsOf, WellFormed}
 use Rattle.bk_bridge.specs.Bridge.{IsStep}
 use Rattle.bk_bridge.proofs.Places.{group-start, tag-start, sets_pos}
 use Rattle.bk_bridge.proofs.Channels.{pushed, unpushed}
 use Rattle.bk_bridge.proofs.MemoryWrites.{block_written, word_written, block_read}
-use Rattle.bk_bridge.proofs.Same.{Same, world}
+use Rattle.bk_bridge.proofs.Same.{world}
 
 -- a step where the head is this one
 head-step : (k : Shape) (program : List Form) (n : State) (x : Option (ℕ × Transaction)) (m : Row) (ms : List Row) → 0 < k.sets → IsOf networks.Memout m
@@ -26,16 +23,43 @@ head-step : (k : Shape) (program : List Form) (n : State) (x : Option (ℕ × Tr
 head-step k program n x (rows.Read from to addr) ms l h = record {
   enabled = refl;
   left = world (record {
-    held = refl; words = refl; directory = refl; recency = refl; busy = refl; pending = refl; memory = refl; request = refl; command = refl;
-    fill = refl; response = refl; memout = refl; transaction = refl; history = refl; taken = refl; settled = refl;
+    held = refl;
+    words = refl;
+    directory = refl;
+    recency = refl;
+    busy = refl;
+    pending = refl;
+    memory = refl;
+    request = refl;
+    command = refl;
+    fill = refl;
+    response = refl;
+    memout = refl;
+    transaction = refl;
+    history = refl;
+    taken = refl;
+    settled = refl;
     memin = pushed (as_block k) n.memin _ _ (λ i. Some (group-start k addr i, record { tag = tag-start k addr i; words = block_read k n.memory addr l i }));
   });
 }
 head-step k program n x (rows.Write from to addr words) ms l h = record {
   enabled = refl;
   left = world (record {
-    held = refl; words = refl; directory = refl; recency = refl; busy = refl; pending = refl; request = refl; command = refl;
-    fill = refl; response = refl; memout = refl; transaction = refl; history = refl; taken = refl; settled = refl;
+    held = refl;
+    words = refl;
+    directory = refl;
+    recency = refl;
+    busy = refl;
+    pending = refl;
+    request = refl;
+    command = refl;
+    fill = refl;
+    response = refl;
+    memout = refl;
+    transaction = refl;
+    history = refl;
+    taken = refl;
+    settled = refl;
     memory = block_written k n.memory addr words l h.whole.block;
     memin = unpushed (as_block k) n.memin;
   });
@@ -43,8 +67,21 @@ head-step k program n x (rows.Write from to addr words) ms l h = record {
 head-step k program n x (rows.WriteWord from to addr word) ms l h = record {
   enabled = refl;
   left = world (record {
-    held = refl; words = refl; directory = refl; recency = refl; busy = refl; pending = refl; request = refl; command = refl;
-    fill = refl; response = refl; memout = refl; transaction = refl; history = refl; taken = refl; settled = refl;
+    held = refl;
+    words = refl;
+    directory = refl;
+    recency = refl;
+    busy = refl;
+    pending = refl;
+    request = refl;
+    command = refl;
+    fill = refl;
+    response = refl;
+    memout = refl;
+    transaction = refl;
+    history = refl;
+    taken = refl;
+    settled = refl;
     memory = word_written k n.memory addr word l h.whole.address.aligned;
     memin = unpushed (as_block k) n.memin;
   });

@@ -1,16 +1,16 @@
 -- The opening state is the empty machine, and well formed.
-use Rattle.std.proofs.Common.{◌≡◌, ℕ, zero, suc, ◌+◌, ◌*◌, ◌/◌, ◌^◌, ◌<◌, ◌≤◌, ltb, ◌&&◌, Bool, true, false, cond, refl, ap, ◌∙◌, arith, List, [], ◌∷◌, ◌++◌, get_or, replicate, Option, None}
+use Rattle.std.proofs.Common.{◌≡◌, ℕ, zero, suc, ◌+◌, ◌/◌, ◌^◌, ◌<◌, ◌≤◌, ltb, ◌&&◌, Bool, true, false, cond, refl, ap, ◌∙◌, arith, List, [], ◌∷◌, ◌++◌, get_or, replicate, None}
 use Rattle.std.proofs.lemmas.Bool.Decides.{nat_tests}
 use Rattle.std.proofs.lemmas.Nat.{le-div}
 use mathlib.Core.Path.{fun_ext}
-use Rattle.bk_base.specs.Places.{Shape, InProfile, is_set_count, tag_limit, address_in}
+use Rattle.bk_base.specs.Places.{Shape, InProfile, is_set_count}
 use Rattle.bk_base.specs.Counting.{join_below}
-use Rattle.bk_system.specs.State.{State, opening}
+use Rattle.bk_system.specs.State.{opening}
 use Rattle.bk_machine.specs.Products.{words_of}
-use Rattle.bk_machine.specs.World.{World, empty, ways_from}
-use Rattle.bk_bridge.specs.Worlds.{world_of, word_at}
-use Rattle.bk_bridge.specs.Formed.{WellFormed, WellFormedEngine}
-use Rattle.bk_bridge.proofs.Same.{Same, world}
+use Rattle.bk_machine.specs.World.{empty, ways_from}
+use Rattle.bk_bridge.specs.Worlds.{world_of}
+use Rattle.bk_bridge.specs.Formed.{WellFormed}
+use Rattle.bk_bridge.proofs.Same.{world}
 
 zeros : (n i : ℕ) → ◌≡◌ {A = ℕ} (get_or (replicate n 0) i 0) 0
 zeros zero i = refl

@@ -1,7 +1,7 @@
 -- Addresses: an address is its group, tag and place, and a block's first word is at the block's group and tag.
-use Rattle.std.proofs.Common.{◌≡◌, ℕ, ◌+◌, ◌*◌, ◌/◌, ◌%◌, ◌^◌, ◌<◌, ◌≤◌, Bool, true, false, cond, eqb, ltb, ◌&&◌, refl, sym, ap, ◌∙◌, arith, div-add-mod'}
+use Rattle.std.proofs.Common.{◌≡◌, ℕ, ◌+◌, ◌*◌, ◌/◌, ◌%◌, ◌<◌, Bool, true, false, eqb, ◌&&◌, refl, sym, ap, ◌∙◌, arith, div-add-mod'}
 use Rattle.std.proofs.lemmas.Bool.Decides.{nat_tests}
-use Rattle.bk_base.specs.Places.{Shape, InProfile, IsAddr, is_set_count, block_of, block_start, word_of, group_of, tag_at, address_in}
+use Rattle.bk_base.specs.Places.{Shape, InProfile, IsAddr, is_set_count, block_of, block_start, word_of, group_of, tag_at}
 
 pub sets_pos : (k : Shape) → InProfile k → 0 < k.sets
 sets_pos k p = lem k.sets p.sets
@@ -30,6 +30,7 @@ block_by_parts s a b l = go (eqb a b) refl (eqb (a % s) (b % s)) refl (eqb (a / 
   where
     parts : a % s ≡ b % s → a / s ≡ b / s → a ≡ b
     parts e f = sym (div-add-mod' a s) ∙ ap (λ (q : ℕ). q * s + a % s) f ∙ ap (λ (r : ℕ). b / s * s + r) e ∙ div-add-mod' b s
+
     go : (x : Bool) → eqb a b ≡ x → (y : Bool) → eqb (a % s) (b % s) ≡ y → (z : Bool) → eqb (a / s) (b / s) ≡ z → x ≡ (y && z)
     go x p y q z r = grind (arith, nat_tests, parts)
 
@@ -65,4 +66,4 @@ pub words_apart : (k : Shape) (a b : ℕ) → 0 < k.sets → IsAddr a → IsAddr
     → eqb a b ≡ (eqb (group_of k a) (group_of k b) && (eqb (tag_at k a) (tag_at k b) && eqb (word_of a) (word_of b)))
 words_apart k a b l f g =
     same_word a b f.aligned g.aligned ∙ ap (λ (y : Bool). y && eqb (word_of a) (word_of b)) (blocks k a b l)
-        ∙ and-assoc (eqb (group_of k a) (group_of k b)) (eqb (tag_at k a) (tag_at k b)) (eqb (word_of a) (word_of b))
+    ∙ and-assoc (eqb (group_of k a) (group_of k b)) (eqb (tag_at k a) (tag_at k b)) (eqb (word_of a) (word_of b))

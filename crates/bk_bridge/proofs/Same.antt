@@ -1,5 +1,5 @@
 -- Two states of the machine are one where their parts are.
-use Rattle.std.proofs.Common.{◌≡◌, ℕ}
+use Rattle.std.proofs.Common.{◌≡◌}
 use Rattle.bk_machine.specs.World.{World}
 
 pub record Same (v w : World) : Type 0 where

@@ -1,6 +1,6 @@
 -- What an instruction sends is whole: addresses are those of words, and a block has eight words.
-use Rattle.std.proofs.Common.{◌≡◌, ℕ, ◌<◌, zero, suc, Bool, true, false, cond, refl, List, [], ◌∷◌, ◌++◌, length, Option, Some, None, IfSome, ◌==◌, mod-lt}
-use Rattle.bk_base.specs.Places.{Shape, InProfile, IsAddr, block_start, group_of}
+use Rattle.std.proofs.Common.{◌≡◌, ℕ, zero, suc, Bool, List, [], ◌∷◌, ◌++◌, length, Option, Some, None, IfSome, ◌==◌, mod-lt}
+use Rattle.bk_base.specs.Places.{Shape, InProfile, IsAddr, group_of}
 use Rattle.bk_base.specs.Counting.{join_below}
 use Rattle.bk_base.specs.declared.coh.Coh.{Coh}
 use Rattle.bk_isa.specs.declared.form.Form.{Form}

@@ -1,5 +1,5 @@
 -- Where the message that a row of a cache sends goes: to the end of the cache's channel of its network, and to no other channel.
-use Rattle.std.proofs.Common.{◌≡◌, ℕ, cond, refl, ap, ◌∙◌, List, [], ◌∷◌, ◌++◌, Some}
+use Rattle.std.proofs.Common.{◌≡◌, ℕ, cond, ap, List, [], ◌∷◌, ◌++◌, Some}
 use Rattle.bk_base.specs.Tables.{put}
 use Rattle.bk_msg.specs.declared.row.Row.{Row}
 use Rattle.bk_msg.specs.declared.row.Network.{Network}

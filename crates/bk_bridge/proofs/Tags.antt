@@ -1,15 +1,14 @@
 -- The tags of blocks are below a limit, and a block of such a tag has an address. A directory's tags stay below it.
-use Rattle.std.proofs.Common.{◌≡◌, ℕ, ◌+◌, ◌*◌, ◌/◌, ◌%◌, ◌^◌, ◌<◌, ◌≤◌, Bool, true, false, cond, eqb, ◌&&◌, refl, sym, ap, ◌∙◌, subst, arith, Option, Some, None, IfSome, mod-lt}
+use Rattle.std.proofs.Common.{◌≡◌, ℕ, ◌+◌, ◌*◌, ◌/◌, ◌^◌, ◌<◌, Bool, true, ◌&&◌, sym, subst, arith, Option, Some, None, IfSome}
 use Rattle.std.proofs.lemmas.Bool.Decides.{nat_tests}
 use Rattle.std.proofs.lemmas.Nat.{div_below, mul-add-lt}
-use Rattle.bk_base.specs.Places.{Shape, InProfile, IsAddr, is_set_count, block_of, block_start, group_of, tag_at, tag_limit, address_in}
-use Rattle.bk_base.specs.Tables.{put}
+use Rattle.bk_base.specs.Places.{Shape, InProfile, IsAddr, is_set_count, block_of, group_of, tag_at, tag_limit, address_in}
 use Rattle.bk_base.specs.declared.coh.Coh.{Coh}
 use Rattle.bk_isa.specs.declared.form.Form.{Form}
 use Rattle.bk_isa.specs.declared.form.Form.TheVariants.{Wde, Wds, Inv, Stwb, Popq}
 use Rattle.bk_dir.specs.declared.entry.Entry.{Entry}
 use Rattle.bk_dir.specs.declared.entry.Summary.{Summary}
-use Rattle.bk_dir.specs.Contents.{Contents, with_entry, with_state, with_pending}
+use Rattle.bk_dir.specs.Contents.{Contents, with_entry, with_state}
 use Rattle.bk_dir.specs.Summaries.{holds}
 use Rattle.bk_engine.specs.declared.parts.Head.{Head}
 use Rattle.bk_engine.specs.declared.parts.Held.{Held}
@@ -20,7 +19,7 @@ use Rattle.bk_engine.specs.Sends.{is_invalidated}
 use Rattle.bk_engine.specs.Changes.{wiped, invalidates, state_written, named_written, directory_for, directory_held, message_marked, head_marked, directory_after}
 use Rattle.bk_msg.specs.declared.row.Row.{Row}
 use Rattle.std.specs.Prelude.{nat_lt, ◌==◌}
-use Rattle.bk_bridge.proofs.Places.{sets_pos, start_IsAddr}
+use Rattle.bk_bridge.proofs.Places.{sets_pos}
 use Rattle.bk_bridge.proofs.Formed.{cond-all, put-all}
 
 whole-blocks : (n : ℕ) → is_set_count n ≡ true → 2 ^ 34 / n * n ≡ 2 ^ 34
@@ -31,6 +30,7 @@ tag_below k a p h = div_below (block_of a) k.sets (tag_limit k) (sets_pos k p) (
   where
     below : a < 2 ^ 40
     below = h.below
+
     block : block_of a < 2 ^ 34
     block = omega arith
 
@@ -39,6 +39,7 @@ in_IsAddr k s t p l h = lem (t * k.sets + s) (subst (λ (m : ℕ). t * k.sets + 
   where
     whole-blocks-turned : (n : ℕ) → is_set_count n ≡ true → n * (2 ^ 34 / n) ≡ 2 ^ 34
     whole-blocks-turned n e = grind (arith, nat_tests)
+
     lem : (b : ℕ) → b < 2 ^ 34 → IsAddr (b * 64)
     lem b g = record { below = omega arith; aligned = omega arith }
 

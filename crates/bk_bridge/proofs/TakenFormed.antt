@@ -1,22 +1,20 @@
 -- What each row of a cache's table leaves and sends is well formed.
-use Rattle.std.proofs.Common.{◌≡◌, ℕ, Bool, true, false, cond, eqb, ◌&&◌, refl, ap, ◌∙◌, List, [], ◌∷◌, length, set, Option, Some, None, IfSome, slice_index, length-set}
-use Rattle.bk_base.specs.Places.{Shape, IsAddr, block_of, block_start, word_of, group_of, tag_at}
-use Rattle.bk_base.specs.Tables.{put}
+use Rattle.std.proofs.Common.{◌≡◌, ℕ, eqb, ◌&&◌, ◌∙◌, List, length, Option, Some, None, IfSome, length-set}
+use Rattle.bk_base.specs.Places.{Shape, IsAddr, block_of, word_of, group_of, tag_at}
 use Rattle.bk_base.specs.States.{is_writable, is_dirty}
 use Rattle.bk_base.specs.declared.coh.Coh.{Coh}
 use Rattle.bk_base.specs.declared.op.Op.{Op as Operation}
 use Rattle.bk_base.specs.declared.op.Op.TheVariants as ops
 use Rattle.bk_msg.specs.declared.row.Row.{Row}
 use Rattle.bk_msg.specs.declared.row.Row.TheVariants as rows
-use Rattle.bk_msg.specs.declared.row.TheConstants.{ENGINE}
 use Rattle.bk_lce.specs.declared.line.Line.{Line}
 use Rattle.bk_lce.specs.declared.line.InProgress.{InProgress as Begun}
-use Rattle.bk_lce.specs.CacheState.{CacheState, found, line_at, holds, with_line, used}
+use Rattle.bk_lce.specs.CacheState.{CacheState, found, line_at, holds}
 use Rattle.bk_lce.specs.CacheTable as table
 use Rattle.bk_lce.specs.CacheTable.{Taken}
 use Rattle.bk_system.specs.State.{State}
 use Rattle.bk_system.specs.Events.{with_taken}
-use Rattle.bk_bridge.specs.Formed.{WellFormed, IsWhole, HasEight, address_in_op}
+use Rattle.bk_bridge.specs.Formed.{WellFormed, IsWhole, address_in_op}
 use Rattle.bk_bridge.proofs.Places.{start_IsAddr}
 use Rattle.bk_bridge.proofs.Formed.{cond-all, put-all, guard, requests-formed, responses-formed, fills-formed, HaveEight, line-formed}
 

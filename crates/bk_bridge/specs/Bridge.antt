@@ -19,18 +19,18 @@ pub record IsStep (k : Shape) (program : List Form) (n : State) (x : Option (ℕ
   pub enabled : is_enabled k program n e ≡ machine.has_step (machine.step_of k (world_of k n x) m)
   pub left : world_of k (after k program n e) x ≡ machine.happens k (world_of k n x) m
 
--- an event that isn't the engine's
-abbrev pub IsQuiet : Event → Type 0
-IsQuiet (events.Issue c op way) = Unit {0}
-IsQuiet (events.Command c) = Unit {0}
-IsQuiet (events.Fill to from) = Unit {0}
-IsQuiet events.Memory = Unit {0}
-IsQuiet (events.Engine choice) = ⊥
+-- an event outside the engine: of a cache or the memory
+abbrev pub IsOutside : Event → Type 0
+IsOutside (events.Issue c op way) = Unit {0}
+IsOutside (events.Command c) = Unit {0}
+IsOutside (events.Fill to from) = Unit {0}
+IsOutside events.Memory = Unit {0}
+IsOutside (events.Engine choice) = ⊥
 
 -- such events alone
-abbrev pub AreQuiet : List Event → Type 0
-AreQuiet [] = Unit {0}
-AreQuiet (e ∷ es) = IsQuiet e × AreQuiet es
+abbrev pub AreOutside : List Event → Type 0
+AreOutside [] = Unit {0}
+AreOutside (e ∷ es) = IsOutside e × AreOutside es
 
 -- the machine's events of a list
 abbrev pub events_of : Shape → List Event → List machine.Event
@@ -62,11 +62,16 @@ EventsKeepForm = (k : Shape) (program : List Form) (n : State) (e : Event) → W
 abbrev pub RunsKeepForm : Type 0
 RunsKeepForm = (k : Shape) (program : List Form) (n : State) (es : List Event) → WellFormed k n → AreLawful es → WellFormed k (run_from k program n es)
 
--- runs of them, from a well formed state on and from the opening
+-- whatever the program did before, an event of a cache or the memory is a step of the machine
+abbrev pub ReachedStatesStep : Type 0
+ReachedStatesStep = (k : Shape) (program : List Form) (es : List Event) (x : Option (ℕ × Transaction)) (e : Event) (m : machine.Event)
+    → InProfile k → AreLawful es → IsLawful e → event_of k e ≡ Some m → IsStep k program (system.run k program es) x e m
+
+-- runs of such events, from a well formed state on and from the opening
 abbrev pub RunsAreRuns : Type 0
 RunsAreRuns = (k : Shape) (program : List Form) (n : State) (x : Option (ℕ × Transaction)) (es : List Event)
-    → WellFormed k n → AreLawful es → AreQuiet es → IsRun k program n x es
+    → WellFormed k n → AreLawful es → AreOutside es → IsRun k program n x es
 
 abbrev pub RunsFromOpening : Type 0
-RunsFromOpening = (k : Shape) (program : List Form) (es : List Event) → InProfile k → AreLawful es → AreQuiet es
+RunsFromOpening = (k : Shape) (program : List Form) (es : List Event) → InProfile k → AreLawful es → AreOutside es
     → world_of k (system.run k program es) None ≡ machine.run k (events_of k es) (empty k.ways)

@@ -1,6 +1,6 @@
 -- What each state has that a run comes to, as far as the machine's view rests on it: messages stand in the channels of their own
 -- networks, blocks have eight words, and addresses are those of words.
-use Rattle.std.specs.Prelude.{◌≡◌, ◌<◌, ℕ, List, [], ◌∷◌, length, Option, IfSome}
+use Rattle.std.specs.Prelude.{◌≡◌, ◌<◌, ℕ, List, [], ◌∷◌, length, IfSome}
 use Rattle.bk_base.specs.Places.{Shape, InProfile, IsAddr, tag_limit}
 use Rattle.bk_base.specs.declared.op.Op.{Op}
 use Rattle.bk_base.specs.declared.op.Op.TheVariants.{Load, Store, UcLoad, UcStore, Evict}

@@ -1,6 +1,6 @@
 use Rattle.bk_bridge.proofs.Opening.{opens_empty, opens_formed}
 use Rattle.bk_bridge.proofs.Keeps.{event-keeps, run-keeps}
-use Rattle.bk_bridge.proofs.Law.{event_step, run-is, run-from_opening}
+use Rattle.bk_bridge.proofs.Law.{event_step, reached-step, run-is, run-from_opening}
 use Rattle.bk_bridge.proofs.bridge.quiet_runs.Goals as goal
 
 pub returns-clause-opens_empty : goal.returns-clause-opens_empty
@@ -23,3 +23,6 @@ returns-clause-runs c = run-is
 
 pub returns-clause-whole : goal.returns-clause-whole
 returns-clause-whole c = run-from_opening
+
+pub returns-clause-reached : goal.returns-clause-reached
+returns-clause-reached c = reached-step
