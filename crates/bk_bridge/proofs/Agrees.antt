@@ -22,7 +22,8 @@ Agrees left w (Some t) None = ⊥
 Agrees left w (Some t) (Some a) = left t ≡ step_after a.0 a.1 w
 
 -- behind one test of both
-pub behind : (left : Taken → World) (w : World) (b : Bool) (t : Option Taken) (a : Option (ℕ × Step)) → Agrees left w t a → Agrees left w (cond b t None) (cond b a None)
+pub behind : (left : Taken → World) (w : World) (b : Bool) (t : Option Taken) (a : Option (ℕ × Step)) → Agrees left w t a
+    → Agrees left w (cond b t None) (cond b a None)
 behind left w true t a h = h
 behind left w false t a h = tt
 
@@ -39,7 +40,8 @@ pub record IsSame (k : Shape) (x : Option (ℕ × Transaction)) (n p : State) (c
   pub enabled : is_some (takes p c t) ≡ has_step a
   pub left : world_of k (state_after_row n (takes p c t)) x ≡ stepped (world_of k n x) a
 
-pub same : (k : Shape) (x : Option (ℕ × Transaction)) (n p : State) (c : ℕ) (t : Option Taken) (a : Option (ℕ × Step)) → Agrees (left_of k x p c) (world_of k n x) t a → IsSame k x n p c t a
+pub same : (k : Shape) (x : Option (ℕ × Transaction)) (n p : State) (c : ℕ) (t : Option Taken) (a : Option (ℕ × Step))
+    → Agrees (left_of k x p c) (world_of k n x) t a → IsSame k x n p c t a
 same k x n p c None None h = record { enabled = refl; left = refl }
 same k x n p c None (Some a) h = absurd h
 same k x n p c (Some t) None h = absurd h

@@ -44,7 +44,8 @@ pub pair-kept : {X : Type 0} (f : CacheState → ℕ → X) (m : ℕ → CacheSt
     → ◌≡◌ {A = ℕ → ℕ → X} (λ g i. f (put m c n i) g) (λ g i. f (m i) g)
 pair-kept {X} f m c n e = ap (λ (h : ℕ → ℕ → X). λ g i. h i g) (put-same f m c n e)
 
-pub pair-written : {X : Type 0} (f : CacheState → ℕ → X) (m : ℕ → CacheState) (c : ℕ) (n : CacheState) (s : ℕ) (y : X) → ((g : ℕ) → f n g ≡ put (f (m c)) s y g)
+pub pair-written : {X : Type 0} (f : CacheState → ℕ → X) (m : ℕ → CacheState) (c : ℕ) (n : CacheState) (s : ℕ) (y : X)
+    → ((g : ℕ) → f n g ≡ put (f (m c)) s y g)
     → ◌≡◌ {A = ℕ → ℕ → X} (λ g i. f (put m c n i) g) (put2 (λ g i. f (m i) g) s c y)
 unfolding put put2
 pair-written {X} f m c n s y e = ap (λ (h : ℕ → ℕ → X). λ g i. h i g) (put-of f m c n (f n) refl) ∙ fun_ext (λ g. fun_ext (λ i. at g i))
@@ -61,12 +62,14 @@ unfolding put
 line-of f m s v x g w = grind (arith, nat_tests)
 
 -- what a write doesn't change of its line, it changes nowhere
-pub line-same : {X Y : Type 0} (f : X → Y) (m : ℕ → ℕ → X) (s v : ℕ) (x : X) → f x ≡ f (m s v) → (g w : ℕ) → f (put m s (put (m s) v x) g w) ≡ f (m g w)
+pub line-same : {X Y : Type 0} (f : X → Y) (m : ℕ → ℕ → X) (s v : ℕ) (x : X) → f x ≡ f (m s v) → (g w : ℕ)
+    → f (put m s (put (m s) v x) g w) ≡ f (m g w)
 unfolding put
 line-same f m s v x e g w = grind (arith, nat_tests)
 
 -- all lines of a set that hold a tag become I
-pub wiped-of : (m : ℕ → ℕ → Line) (s t g w : ℕ) → entry_of (put m s (λ w. table.wiped t (m s w)) g w) ≡ put {X = ℕ → Entry} (λ g w. entry_of (m g w)) s (λ w. wiped t (entry_of (m s w))) g w
+pub wiped-of : (m : ℕ → ℕ → Line) (s t g w : ℕ)
+    → entry_of (put m s (λ w. table.wiped t (m s w)) g w) ≡ put {X = ℕ → Entry} (λ g w. entry_of (m g w)) s (λ w. wiped t (entry_of (m s w))) g w
 unfolding put
 wiped-of m s t g w = grind (arith, nat_tests)
 
@@ -100,11 +103,16 @@ pub used-recency : (n : CacheState) (s v g : ℕ) → (used n s v).recency g ≡
 used-recency n s v g = ap (λ (ys : List ℕ). put n.recency s ys g) (front v (n.recency s))
 
 -- cache c drops a tag of a group
-pub table-wiped : (m : ℕ → CacheState) (c s t : ℕ) (n : CacheState) → ((g w : ℕ) → entry_of (n.lines g w) ≡ put {X = ℕ → Entry} (λ g w. entry_of ((m c).lines g w)) s (λ w. wiped t (entry_of ((m c).lines s w))) g w)
-    → ◌≡◌ {A = ℕ → ℕ → ℕ → Entry} (λ g i w. entry_of ((put m c n i).lines g w)) (put (λ g i w. entry_of ((m i).lines g w)) s (wipe c t (λ i w. entry_of ((m i).lines s w))))
+pub table-wiped : (m : ℕ → CacheState) (c s t : ℕ) (n : CacheState)
+    → ((g w : ℕ) → entry_of (n.lines g w) ≡ put {X = ℕ → Entry} (λ g w. entry_of ((m c).lines g w)) s
+    (λ w. wiped t (entry_of ((m c).lines s w))) g w)
+    → ◌≡◌ {A = ℕ → ℕ → ℕ → Entry} (λ g i w. entry_of ((put m c n i).lines g w))
+    (put (λ g i w. entry_of ((m i).lines g w)) s (wipe c t (λ i w. entry_of ((m i).lines s w))))
 unfolding put wipe
 table-wiped m c s t n e =
-    ap (λ (h : ℕ → ℕ → ℕ → Entry). λ g i w. h i g w) (put-of {Y = ℕ → ℕ → Entry} (λ y g w. entry_of (y.lines g w)) m c n (λ g w. entry_of (n.lines g w)) refl) ∙ fun_ext (λ g. fun_ext (λ i. fun_ext (λ w. at g i w)))
+    ap (λ (h : ℕ → ℕ → ℕ → Entry). λ g i w. h i g w)
+    (put-of {Y = ℕ → ℕ → Entry} (λ y g w. entry_of (y.lines g w)) m c n (λ g w. entry_of (n.lines g w)) refl)
+    ∙ fun_ext (λ g. fun_ext (λ i. fun_ext (λ w. at g i w)))
   where
     at : (g i w : ℕ) → put {X = ℕ → ℕ → Entry} (λ i g w. entry_of ((m i).lines g w)) c (λ g w. entry_of (n.lines g w)) i g w
         ≡ put (λ g i w. entry_of ((m i).lines g w)) s (wipe c t (λ i w. entry_of ((m i).lines s w))) g i w

@@ -45,19 +45,26 @@ module _ (k : Shape) (p : State) (x : Option (ℕ × Transaction)) (c : ℕ) (C 
       (cond (eqb (op_of k op).0 (group_of k addr))
       (cond (eqb begun way) (block_row (group_of k addr) c (tag_at k addr) way state (words_of words) rest (op_of k op).1) None) None)
   granted-op way addr state words (ops.Load at) begun eight =
-      gated _ _ (eqb (group_of k at) (group_of k addr)) (eqb begun way) (eqb (tag_at k at) (tag_at k addr)) (eqb (block_of at) (block_of addr)) _ _ _ (blocks k at addr sets)
+      gated _ _ (eqb (group_of k at) (group_of k addr)) (eqb begun way) (eqb (tag_at k at) (tag_at k addr))
+      (eqb (block_of at) (block_of addr)) _ _ _ (blocks k at addr sets)
       (λ f g. with-rest _ _ (load_granted k p x c way at state words (group_of k addr) (tag_at k addr) (eqb-true _ _ f) (eqb-true _ _ g)) refl)
   granted-op way addr state words (ops.Store at value) begun eight =
-      gated _ _ (eqb (group_of k at) (group_of k addr)) (eqb begun way) (eqb (tag_at k at) (tag_at k addr) && is_writable state) (eqb (block_of at) (block_of addr) && is_writable state) _ _ _
+      gated _ _ (eqb (group_of k at) (group_of k addr)) (eqb begun way) (eqb (tag_at k at) (tag_at k addr) && is_writable state)
+      (eqb (block_of at) (block_of addr) && is_writable state) _ _ _
       (and_last _ _ _ _ _ (blocks k at addr sets) (λ f g. refl))
-      (λ f g. with-rest _ _ (store_granted k p x c way at value state words (group_of k addr) (tag_at k addr) eight (eqb-true _ _ f) (eqb-true _ _ (and_parts _ _ g).0)) refl)
-  granted-op way addr state words (ops.UcLoad at) begun eight = gated-none (left_of k x p c) (Before k p x C) (eqb (group_of k at) (group_of k addr)) (eqb begun way)
-  granted-op way addr state words (ops.UcStore at value) begun eight = gated-none (left_of k x p c) (Before k p x C) (eqb (group_of k at) (group_of k addr)) (eqb begun way)
-  granted-op way addr state words (ops.Evict at) begun eight = gated-none (left_of k x p c) (Before k p x C) (eqb (group_of k at) (group_of k addr)) (eqb begun way)
+      (λ f g. with-rest _ _ (store_granted k p x c way at value state words (group_of k addr) (tag_at k addr) eight (eqb-true _ _ f)
+      (eqb-true _ _ (and_parts _ _ g).0)) refl)
+  granted-op way addr state words (ops.UcLoad at) begun eight =
+      gated-none (left_of k x p c) (Before k p x C) (eqb (group_of k at) (group_of k addr)) (eqb begun way)
+  granted-op way addr state words (ops.UcStore at value) begun eight =
+      gated-none (left_of k x p c) (Before k p x C) (eqb (group_of k at) (group_of k addr)) (eqb begun way)
+  granted-op way addr state words (ops.Evict at) begun eight =
+      gated-none (left_of k x p c) (Before k p x C) (eqb (group_of k at) (group_of k addr)) (eqb begun way)
 
   pub block_comes : (way addr : ℕ) (state : Coh) (words : List ℕ) (b : Option Begun) → length words ≡ 8
       → Agrees (left_of k x p c) (Before k p x C) (table.granted k (p.caches c) c way state addr words b)
-      (for_busy (group_of k addr) (begun_of k b) (λ o. cond (eqb o.way way) (block_row (group_of k addr) c (tag_at k addr) way state (words_of words) rest o.op) None))
+      (for_busy (group_of k addr) (begun_of k b)
+      (λ o. cond (eqb o.way way) (block_row (group_of k addr) c (tag_at k addr) way state (words_of words) rest o.op) None))
   block_comes way addr state words None eight = tt
   block_comes way addr state words (Some b) eight = granted-op way addr state words b.op b.way eight
 
@@ -65,32 +72,41 @@ module _ (k : Shape) (p : State) (x : Option (ℕ × Transaction)) (c : ℕ) (C 
   woken-op : (way addr : ℕ) (op : Operation) (begun : ℕ)
       → Agrees (left_of k x p c) (Before k p x C)
       (cond (eqb begun way) (table.wake_row k (p.caches c) c way addr op) None)
-      (cond (eqb (op_of k op).0 (group_of k addr)) (cond (eqb begun way) (wake_row (Before k p x C) (group_of k addr) c (tag_at k addr) way rest (op_of k op).1) None) None)
+      (cond (eqb (op_of k op).0 (group_of k addr))
+      (cond (eqb begun way) (wake_row (Before k p x C) (group_of k addr) c (tag_at k addr) way rest (op_of k op).1) None) None)
   woken-op way addr (ops.Store at value) begun =
       gated _ _ (eqb (group_of k at) (group_of k addr)) (eqb begun way)
       (eqb (tag_at k at) (tag_at k addr) && holds (entry_of ((p.caches c).lines (group_of k addr) way)) (tag_at k addr))
       (eqb (block_of at) (block_of addr) && caches.holds ((p.caches c).lines (group_of k at) way) (tag_at k at)) _ _ _
-      (and_last _ _ _ _ _ (blocks k at addr sets) (λ f g. λ i. holds (entry_of ((p.caches c).lines (eqb-true (group_of k at) (group_of k addr) f i) way)) (eqb-true (tag_at k at) (tag_at k addr) g i)))
-      (λ f g. woken (eqb-true _ _ f) (and_parts (eqb (tag_at k at) (tag_at k addr)) (holds (entry_of ((p.caches c).lines (group_of k addr) way)) (tag_at k addr)) g))
+      (and_last _ _ _ _ _ (blocks k at addr sets)
+      (λ f g. λ i. holds (entry_of ((p.caches c).lines (eqb-true (group_of k at) (group_of k addr) f i) way))
+      (eqb-true (tag_at k at) (tag_at k addr) g i)))
+      (λ f g. woken (eqb-true _ _ f) (and_parts (eqb (tag_at k at) (tag_at k addr))
+      (holds (entry_of ((p.caches c).lines (group_of k addr) way)) (tag_at k addr)) g))
     where
-      woken : group_of k at ≡ group_of k addr → (eqb (tag_at k at) (tag_at k addr) ≡ true) × (holds (entry_of ((p.caches c).lines (group_of k addr) way)) (tag_at k addr) ≡ true)
-          → left_of k x p c (table.fills k (p.caches c) c (ops.Store at value) at 0 way (table.stored ((p.caches c).lines (group_of k at) way) at value))
+      woken : group_of k at ≡ group_of k addr
+          → (eqb (tag_at k at) (tag_at k addr) ≡ true) × (holds (entry_of ((p.caches c).lines (group_of k addr) way)) (tag_at k addr) ≡ true)
+          → left_of k x p c (table.fills k (p.caches c) c (ops.Store at value) at 0 way
+          (table.stored ((p.caches c).lines (group_of k at) way) at value))
           ≡ step_after (group_of k addr) (WakeStores c (tag_at k addr) way (word_of at) value rest) (Before k p x C)
       woken f g =
           let same_tag : tag_at k at ≡ tag_at k addr = eqb-true (tag_at k at) (tag_at k addr) g.0 in
           let held_tag : ((p.caches c).lines (group_of k at) way).tag ≡ tag_at k at =
           ap (λ (s : ℕ). ((p.caches c).lines s way).tag) f
-          ∙ eqb-true _ _ (and_parts (is_readable ((p.caches c).lines (group_of k addr) way).state) (eqb ((p.caches c).lines (group_of k addr) way).tag (tag_at k addr)) g.1).1
+          ∙ eqb-true _ _ (and_parts (is_readable ((p.caches c).lines (group_of k addr) way).state)
+          (eqb ((p.caches c).lines (group_of k addr) way).tag (tag_at k addr)) g.1).1
           ∙ sym same_tag in
           with-rest _ _ (store_woken k p x c way at value (group_of k addr) (tag_at k addr) (lines (group_of k at) way) f same_tag held_tag) refl
   woken-op way addr (ops.Load at) begun = gated-none (left_of k x p c) (Before k p x C) (eqb (group_of k at) (group_of k addr)) (eqb begun way)
   woken-op way addr (ops.UcLoad at) begun = gated-none (left_of k x p c) (Before k p x C) (eqb (group_of k at) (group_of k addr)) (eqb begun way)
-  woken-op way addr (ops.UcStore at value) begun = gated-none (left_of k x p c) (Before k p x C) (eqb (group_of k at) (group_of k addr)) (eqb begun way)
+  woken-op way addr (ops.UcStore at value) begun =
+      gated-none (left_of k x p c) (Before k p x C) (eqb (group_of k at) (group_of k addr)) (eqb begun way)
   woken-op way addr (ops.Evict at) begun = gated-none (left_of k x p c) (Before k p x C) (eqb (group_of k at) (group_of k addr)) (eqb begun way)
 
   pub wake_comes : (way addr : ℕ) (b : Option Begun)
       → Agrees (left_of k x p c) (Before k p x C) (table.woken k (p.caches c) c way addr b)
-      (for_busy (group_of k addr) (begun_of k b) (λ o. cond (eqb o.way way) (wake_row (Before k p x C) (group_of k addr) c (tag_at k addr) way rest o.op) None))
+      (for_busy (group_of k addr) (begun_of k b)
+      (λ o. cond (eqb o.way way) (wake_row (Before k p x C) (group_of k addr) c (tag_at k addr) way rest o.op) None))
   wake_comes way addr None = tt
   wake_comes way addr (Some b) = woken-op way addr b.op b.way
 
@@ -104,9 +120,11 @@ module _ (k : Shape) (p : State) (x : Option (ℕ × Transaction)) (c : ℕ) (C 
       → Agrees (left_of k x p c) (Before k p x C) (table.word_row (p.caches c) c way addr word op)
       (cond (eqb (op_of k op).0 (group_of k addr)) (word_row (group_of k addr) c (tag_at k addr) way (word_of addr) word rest (op_of k op).1) None)
   word-op addr word way (ops.UcLoad at) h i =
-      gated _ _ (eqb (group_of k at) (group_of k addr)) true (eqb (tag_at k at) (tag_at k addr) && eqb (word_of at) (word_of addr)) (eqb at addr) _ _ _ (words_apart k at addr sets i h)
+      gated _ _ (eqb (group_of k at) (group_of k addr)) true (eqb (tag_at k at) (tag_at k addr) && eqb (word_of at) (word_of addr))
+      (eqb at addr) _ _ _ (words_apart k at addr sets i h)
       (λ f g. with-rest _ _ (done (ops.UcLoad at) at (group_of k addr) (UcLoad (tag_at k at) (word_of at)) word way refl refl (eqb-true _ _ f)
-      ∙ (λ j. completes (group_of k addr) c (UcLoad (eqb-true (tag_at k at) (tag_at k addr) (and_parts _ _ g).0 j) (eqb-true (word_of at) (word_of addr) (and_parts _ _ g).1 j)) word (world_of k p x))) refl)
+      ∙ (λ j. completes (group_of k addr) c (UcLoad (eqb-true (tag_at k at) (tag_at k addr) (and_parts _ _ g).0 j)
+      (eqb-true (word_of at) (word_of addr) (and_parts _ _ g).1 j)) word (world_of k p x))) refl)
   word-op addr word way (ops.Load at) h i = shut (left_of k x p c) (Before k p x C) (eqb (group_of k at) (group_of k addr))
   word-op addr word way (ops.Store at value) h i = shut (left_of k x p c) (Before k p x C) (eqb (group_of k at) (group_of k addr))
   word-op addr word way (ops.UcStore at value) h i = shut (left_of k x p c) (Before k p x C) (eqb (group_of k at) (group_of k addr))
@@ -123,9 +141,12 @@ module _ (k : Shape) (p : State) (x : Option (ℕ × Transaction)) (c : ℕ) (C 
       → Agrees (left_of k x p c) (Before k p x C) (table.written_row (p.caches c) c way addr op)
       (cond (eqb (op_of k op).0 (group_of k addr)) (stored_row (group_of k addr) c (tag_at k addr) way (word_of addr) rest (op_of k op).1) None)
   stored-op addr way (ops.UcStore at value) h i =
-      gated _ _ (eqb (group_of k at) (group_of k addr)) true (eqb (tag_at k at) (tag_at k addr) && eqb (word_of at) (word_of addr)) (eqb at addr) _ _ _ (words_apart k at addr sets i h)
-      (λ f g. with-rest _ _ (done (ops.UcStore at value) at (group_of k addr) (UcStore (tag_at k at) (word_of at) value) 0 way refl refl (eqb-true _ _ f)
-      ∙ (λ j. completes (group_of k addr) c (UcStore (eqb-true (tag_at k at) (tag_at k addr) (and_parts _ _ g).0 j) (eqb-true (word_of at) (word_of addr) (and_parts _ _ g).1 j) value) 0 (world_of k p x))) refl)
+      gated _ _ (eqb (group_of k at) (group_of k addr)) true (eqb (tag_at k at) (tag_at k addr) && eqb (word_of at) (word_of addr))
+      (eqb at addr) _ _ _ (words_apart k at addr sets i h)
+      (λ f g. with-rest _ _ (done (ops.UcStore at value) at (group_of k addr) (UcStore (tag_at k at) (word_of at) value) 0 way refl refl
+      (eqb-true _ _ f)
+      ∙ (λ j. completes (group_of k addr) c (UcStore (eqb-true (tag_at k at) (tag_at k addr) (and_parts _ _ g).0 j)
+      (eqb-true (word_of at) (word_of addr) (and_parts _ _ g).1 j) value) 0 (world_of k p x))) refl)
   stored-op addr way (ops.Load at) h i = shut (left_of k x p c) (Before k p x C) (eqb (group_of k at) (group_of k addr))
   stored-op addr way (ops.Store at value) h i = shut (left_of k x p c) (Before k p x C) (eqb (group_of k at) (group_of k addr))
   stored-op addr way (ops.UcLoad at) h i = shut (left_of k x p c) (Before k p x C) (eqb (group_of k at) (group_of k addr))
@@ -142,7 +163,8 @@ module _ (k : Shape) (p : State) (x : Option (ℕ × Transaction)) (c : ℕ) (C 
       → Agrees (left_of k x p c) (Before k p x C) (table.evicted_row (p.caches c) c way addr op)
       (cond (eqb (op_of k op).0 (group_of k addr)) (evicted_row (group_of k addr) c (tag_at k addr) way rest (op_of k op).1) None)
   evicted-op addr way (ops.Evict at) =
-      gated _ _ (eqb (group_of k at) (group_of k addr)) true (eqb (tag_at k at) (tag_at k addr)) (eqb (block_of at) (block_of addr)) _ _ _ (blocks k at addr sets)
+      gated _ _ (eqb (group_of k at) (group_of k addr)) true (eqb (tag_at k at) (tag_at k addr)) (eqb (block_of at) (block_of addr)) _ _ _
+      (blocks k at addr sets)
       (λ f g. with-rest _ _ (done (ops.Evict at) at (group_of k addr) (Evict (tag_at k at)) 0 way refl refl (eqb-true _ _ f)
       ∙ (λ j. completes (group_of k addr) c (Evict (eqb-true (tag_at k at) (tag_at k addr) g j)) 0 (world_of k p x))) refl)
   evicted-op addr way (ops.Load at) = shut (left_of k x p c) (Before k p x C) (eqb (group_of k at) (group_of k addr))

@@ -60,12 +60,14 @@ flush-said : (k : Shape) (c addr : ℕ) (words : List ℕ) (b : Bool)
 flush-said k c addr words true = λ i. Some (group-start k addr i, Wb (tag-start k addr i) (words_of words))
 flush-said k c addr words false = λ i. Some (group-start k addr i, NullWb (tag-start k addr i))
 
-flush-network : (c addr : ℕ) (words : List ℕ) (b : Bool) → network_of (cond b (rows.Wb c ENGINE (block_start addr) words) (rows.NullWb c ENGINE (block_start addr))) ≡ networks.Response
+flush-network : (c addr : ℕ) (words : List ℕ) (b : Bool)
+    → network_of (cond b (rows.Wb c ENGINE (block_start addr) words) (rows.NullWb c ENGINE (block_start addr))) ≡ networks.Response
 flush-network c addr words true = refl
 flush-network c addr words false = refl
 
 -- the acknowledgement and the entry of the history, of an operation o
-said-ack : (k : Shape) (c addr : ℕ) (o : Op) → op_tag o ≡ tag_at k addr → as_response k (rows.CohAck c ENGINE (block_start addr)) ≡ Some (group_of k addr, CohAck (op_tag o))
+said-ack : (k : Shape) (c addr : ℕ) (o : Op) → op_tag o ≡ tag_at k addr
+    → as_response k (rows.CohAck c ENGINE (block_start addr)) ≡ Some (group_of k addr, CohAck (op_tag o))
 said-ack k c addr o t = λ i. Some (group-start k addr i, CohAck ((tag-start k addr ∙ sym t) i))
 
 said-done : (k : Shape) (c : ℕ) (op : Operation) (g : ℕ) (o : Op) (answer : ℕ) → op_of k op ≡ (g, o)
@@ -73,9 +75,11 @@ said-done : (k : Shape) (c : ℕ) (op : Operation) (g : ℕ) (o : Op) (answer : 
 said-done k c op g o answer e = ap (λ (q : ℕ × Op). (q.0, record { cache = c; op = q.1; answer = answer })) e
 
 -- StWb: the copy takes the state, and Wb or NullWb is sent
-pub flush_row : (k : Shape) (p : State) (x : Option (ℕ × Transaction)) (c addr v : ℕ) (state : Coh) (C : ℕ → List (ℕ × ToCache)) (rest : List (ℕ × ToCache))
+pub flush_row : (k : Shape) (p : State) (x : Option (ℕ × Transaction)) (c addr v : ℕ) (state : Coh) (C : ℕ → List (ℕ × ToCache))
+    (rest : List (ℕ × ToCache))
     → (world_of k p x).command ≡ put C c rest
-    → world_of k (with_taken p c (table.answers (table.lowered k (p.caches c) addr v state) (table.flush_answer c addr (line_at k (p.caches c) addr v)))).state x
+    → world_of k (with_taken p c (table.answers (table.lowered k (p.caches c) addr v state)
+    (table.flush_answer c addr (line_at k (p.caches c) addr v)))).state x
     ≡ step_after (group_of k addr) (FlushComes c v (tag_at k addr) state rest) (record (world_of k p x) { command = C })
 flush_row k p x c addr v state C rest e = world (record {
   held = table-written seen_entries p.caches c _ (group_of k addr) v _ (line-of entry_of (p.caches c).lines (group_of k addr) v _);
@@ -124,7 +128,16 @@ transfer_row k p x c addr v state peer peer_way peer_state C rest e = world (rec
   request = refl;
   command = e;
   fill = put-put2 (filter_map (as_fill k)) p.fill peer c _ _
-      (pushed (as_fill k) (p.fill peer c) _ _ (λ i. Some (group-start k addr i, record { tag = tag-start k addr i; way = peer_way; state = peer_state; words = words_of (line_at k (p.caches c) addr v).words })));
+      (pushed (as_fill k) (p.fill peer c) _ _ (λ i. Some (
+        group-start k addr i,
+        record {
+          tag = tag-start k addr i;
+          way = peer_way;
+          state = peer_state;
+          words = words_of
+              (line_at k (p.caches c) addr v).words;
+        },
+      )));
   response = refl;
   memout = refl;
   memin = refl;
@@ -137,7 +150,8 @@ transfer_row k p x c addr v state peer peer_way peer_state C rest e = world (rec
 -- An operation completes: the cache is idle, CohAck is sent and the history has its answer. `old` is the cache's state but for that.
 pub completes_row : (k : Shape) (p : State) (x : Option (ℕ × Transaction)) (c : ℕ) (op : Operation) (addr : ℕ) (o : Op) (answer way : ℕ)
     → op_of k op ≡ (group_of k addr, o) → op_tag o ≡ tag_at k addr
-    → world_of k (with_taken p c (table.completes (p.caches c) c op addr answer way)).state x ≡ completes (group_of k addr) c o answer (world_of k p x)
+    → world_of k (with_taken p c (table.completes (p.caches c) c op addr answer way)).state x ≡ completes (group_of k addr) c o answer
+    (world_of k p x)
 completes_row k p x c op addr o answer way e t = world (record {
   held = table-kept seen_entries p.caches c _ (λ g w. refl);
   words = table-kept seen_words p.caches c _ (λ g w. refl);
@@ -159,13 +173,17 @@ completes_row k p x c op addr o answer way e t = world (record {
 })
 
 -- A line is written and used, and an operation completes.
-pub fills_row : (k : Shape) (p : State) (x : Option (ℕ × Transaction)) (c : ℕ) (op : Operation) (addr : ℕ) (o : Op) (answer v : ℕ) (line : Line) (ws : ℕ → ℕ)
+pub fills_row : (k : Shape) (p : State) (x : Option (ℕ × Transaction)) (c : ℕ) (op : Operation) (addr : ℕ) (o : Op) (answer v : ℕ) (line : Line)
+    (ws : ℕ → ℕ)
     → op_of k op ≡ (group_of k addr, o) → op_tag o ≡ tag_at k addr → words_of line.words ≡ ws
     → world_of k (with_taken p c (table.fills k (p.caches c) c op addr answer v line)).state x
-    ≡ completes (group_of k addr) c o answer (fills_entry (group_of k addr) c v line.tag line.state ws (touched (group_of k addr) c v (world_of k p x)))
+    ≡ completes (group_of k addr) c o answer (fills_entry (group_of k addr) c v line.tag line.state ws
+    (touched (group_of k addr) c v (world_of k p x)))
 fills_row k p x c op addr o answer v line ws e t f = world (record {
   held = table-written seen_entries p.caches c _ (group_of k addr) v _ (line-of entry_of (p.caches c).lines (group_of k addr) v line);
-  words = table-written seen_words p.caches c _ (group_of k addr) v _ (line-of (λ (l : Line). words_of l.words) (p.caches c).lines (group_of k addr) v line)
+  words =
+      table-written seen_words p.caches c _ (group_of k addr) v _
+      (line-of (λ (l : Line). words_of l.words) (p.caches c).lines (group_of k addr) v line)
       ∙ ap (λ (ws : ℕ → ℕ). (fills_entry (group_of k addr) c v line.tag line.state ws (world_of k p x)).words) f;
   directory = refl;
   recency = pair-written seen_recency p.caches c _ (group_of k addr) _ (used-recency (p.caches c) (group_of k addr) v);

@@ -108,21 +108,25 @@ serves-formed k n (Movs a) h = request_read-formed n.core n.core.held (Movs a) h
 serves-formed k n (Movw a) h = request_read-formed n.core n.core.held (Movw a) h
 serves-formed k n f h = flags-formed n.core f h
 
-changed-formed : (k : Shape) (n : EngineState) (f : Form) (choice : Choice) (message : Option Row) → FormedCore n.core → IfSome message IsWhole → FormedCore (core_changed k n f choice message)
+changed-formed : (k : Shape) (n : EngineState) (f : Form) (choice : Choice) (message : Option Row) → FormedCore n.core → IfSome message IsWhole
+    → FormedCore (core_changed k n f choice message)
 changed-formed k n (Wfq classes) choice message h w = waited-formed n.core choice message h w
 changed-formed k n (Popq wp) choice message h w = popped-formed n.core n.core.head h h.head
 changed-formed k n Defer choice message h w = record { head = tt; held = h.held; dirty = h.dirty; got = h.got }
 changed-formed k n f choice message h w = serves-formed k n f h
 
-core-formed : (k : Shape) (n : EngineState) (f : Form) (choice : Choice) (message : Option Row) → FormedCore n.core → IfSome message IsWhole → FormedCore (core_after k n f choice message)
+core-formed : (k : Shape) (n : EngineState) (f : Form) (choice : Choice) (message : Option Row) → FormedCore n.core → IfSome message IsWhole
+    → FormedCore (core_after k n f choice message)
 core-formed k n f choice message h w =
     let new : FormedCore (core_changed k n f choice message) = changed-formed k n f choice message h w in
     record { head = new.head; held = new.held; dirty = new.dirty; got = new.got }
 
 -- THE ENGINE
 
-pub engine-formed : (k : Shape) (n : EngineState) (f : Form) (choice : Choice) (message : Option Row) → InProfile k → WellFormedEngine k n → IfSome message IsWhole
+pub engine-formed : (k : Shape) (n : EngineState) (f : Form) (choice : Choice) (message : Option Row) → InProfile k → WellFormedEngine k n
+    → IfSome message IsWhole
     → WellFormedEngine k (record { core = core_after k n f choice message; directory = directory_after k n f })
 engine-formed k n f choice message p h w =
-    let new : FormedCore (core_after k n f choice message) = core-formed k n f choice message (record { head = h.head; held = h.held; dirty = h.dirty; got = h.got }) w in
+    let new : FormedCore (core_after k n f choice message) = core-formed k n f choice message
+    (record { head = h.head; held = h.held; dirty = h.dirty; got = h.got }) w in
     record { head = new.head; held = new.held; dirty = new.dirty; got = new.got; entries = directory_below k n f p h.held h.entries }

@@ -32,12 +32,15 @@ offered-whole k n choice f =
     Whole : Option Row → Type 0
     Whole o = IfSome o IsWhole
 
-commands-formed : (ms : List Row) (channel : ℕ → List Row) → AreWhole ms → ((i : ℕ) → AreOf networks.Command (channel i)) → (i : ℕ) → AreOf networks.Command (commands_with ms channel i)
+commands-formed : (ms : List Row) (channel : ℕ → List Row) → AreWhole ms → ((i : ℕ) → AreOf networks.Command (channel i)) → (i : ℕ)
+    → AreOf networks.Command (commands_with ms channel i)
 commands-formed [] channel h f i = f i
 commands-formed (m ∷ ms) channel h f i = commands-formed ms _ h.1 (go (network_of m) refl) i
   where
     go : (n : Network) → network_of m ≡ n → (i : ℕ) → AreOf networks.Command (added_if (is_command n) (receiver_of m) m channel i)
-    go networks.Command e = put-all (AreOf networks.Command) channel (receiver_of m) _ f (push networks.Command (channel (receiver_of m)) m (f (receiver_of m)) (record { is = e; whole = h.0 }))
+    go networks.Command e =
+        put-all (AreOf networks.Command) channel (receiver_of m) _ f
+        (push networks.Command (channel (receiver_of m)) m (f (receiver_of m)) (record { is = e; whole = h.0 }))
     go n e = f
 
 memout-formed : (ms : List Row) (channel : List Row) → AreWhole ms → AreOf networks.Memout channel → AreOf networks.Memout (memout_with ms channel)
@@ -48,7 +51,8 @@ memout-formed (m ∷ ms) channel h f = memout-formed ms _ h.1 (go (network_of m)
     go networks.Memout e = push networks.Memout channel m f (record { is = e; whole = h.0 })
     go n e = f
 
-heads-formed : (network : Network) (class : ℕ) (popped : Option Choice) (channel : ℕ → List Row) → ((i : ℕ) → AreOf network (channel i)) → (i : ℕ) → AreOf network (heads_left class popped channel i)
+heads-formed : (network : Network) (class : ℕ) (popped : Option Choice) (channel : ℕ → List Row) → ((i : ℕ) → AreOf network (channel i)) → (i : ℕ)
+    → AreOf network (heads_left class popped channel i)
 heads-formed network class None channel f = f
 heads-formed network class (Some choice) channel f =
     cond-all (λ (h : ℕ → List Row). (i : ℕ) → AreOf network (h i)) (choice.class == class) _ channel
@@ -64,7 +68,8 @@ pub record FormedOutcome (k : Shape) (o : Outcome) : Type 0 where
   pub engine : WellFormedEngine k o.engine
   pub sent : AreWhole o.sent
 
-ran-formed : (k : Shape) (n : EngineState) (f : Option Form) (choice : Choice) (message : Option Row) → InProfile k → WellFormedEngine k n → IfSome message IsWhole
+ran-formed : (k : Shape) (n : EngineState) (f : Option Form) (choice : Choice) (message : Option Row) → InProfile k → WellFormedEngine k n
+    → IfSome message IsWhole
     → FormedOutcome k (ran_at k n f choice message)
 ran-formed k n None choice message p h w = record { engine = h; sent = tt }
 ran-formed k n (Some f) choice message p h w = record { engine = engine-formed k n f choice message p h w; sent = sends-whole k n f p h }
@@ -83,11 +88,13 @@ outcome-keeps k n o f h = record {
   engine = h.engine;
 }
 
-row-keeps : (k : Shape) (n : State) (o : Outcome) (b : Bool) → WellFormed k n → WellFormed k (with_outcome k n o).state → WellFormed k (state_after_row n (cond b (Some (with_outcome k n o)) None))
+row-keeps : (k : Shape) (n : State) (o : Outcome) (b : Bool) → WellFormed k n → WellFormed k (with_outcome k n o).state
+    → WellFormed k (state_after_row n (cond b (Some (with_outcome k n o)) None))
 row-keeps k n o true f h = h
 row-keeps k n o false f h = f
 
-pub engine-keeps : (k : Shape) (program : List Form) (n : State) (choice : Choice) → WellFormed k n → WellFormed k (state_after_row n (engine_row k program n choice))
+pub engine-keeps : (k : Shape) (program : List Form) (n : State) (choice : Choice) → WellFormed k n
+    → WellFormed k (state_after_row n (engine_row k program n choice))
 engine-keeps k program n choice f =
     row-keeps k n (runs_to k n.engine program choice (offered n choice)) (can_run k program n choice) f
     (outcome-keeps k n (runs_to k n.engine program choice (offered n choice)) f

@@ -7,9 +7,11 @@ use Rattle.bk_machine.specs.World.{World}
 use Rattle.bk_bridge.proofs.Agrees.{Agrees}
 
 -- p: the group, q: the way, r: the rest of the machine's tests, b: the system's test
-pub gated : (left : Taken → World) (w : World) (p q r b : Bool) (t : Taken) (a : Step) (g : ℕ) → b ≡ (p && r) → (p ≡ true → r ≡ true → left t ≡ step_after g a w)
+pub gated : (left : Taken → World) (w : World) (p q r b : Bool) (t : Taken) (a : Step) (g : ℕ) → b ≡ (p && r)
+    → (p ≡ true → r ≡ true → left t ≡ step_after g a w)
     → Agrees left w (cond q (cond b (Some t) None) None) (cond p (cond q (when r g a) None) None)
-gated left w p q r b t a g e h = subst (λ (y : Bool). Agrees left w (cond q (cond y (Some t) None) None) (cond p (cond q (when r g a) None) None)) (sym e) (go p q r h)
+gated left w p q r b t a g e h =
+    subst (λ (y : Bool). Agrees left w (cond q (cond y (Some t) None) None) (cond p (cond q (when r g a) None) None)) (sym e) (go p q r h)
   where
     go : (p q r : Bool) → (p ≡ true → r ≡ true → left t ≡ step_after g a w)
         → Agrees left w (cond q (cond (p && r) (Some t) None) None) (cond p (cond q (when r g a) None) None)

@@ -32,39 +32,52 @@ Row-agrees k n x c t a = Agrees (left_of k x n c) (world_of k n x) (Some t) a
 
 load : (k : Shape) (n : State) (x : Option (ℕ × Transaction)) (c addr way : ℕ) (o : Option ℕ)
     → Row-agrees k n x c (table.load_row k (n.caches c) c addr way o)
-    (at_way o (λ v. Some (group_of k addr, LoadHits c (tag_at k addr) v (word_of addr))) (Some (group_of k addr, Asks c way (Load (tag_at k addr) (word_of addr)))))
-load k n x c addr way None = asks_row k n x c (ops.Load addr) way (rows.Rd c ENGINE way (block_start addr)) refl (λ i. Some (group-start k addr i, Rd (tag-start k addr i) way))
+    (at_way o (λ v. Some (group_of k addr, LoadHits c (tag_at k addr) v (word_of addr)))
+    (Some (group_of k addr, Asks c way (Load (tag_at k addr) (word_of addr)))))
+load k n x c addr way None =
+    asks_row k n x c (ops.Load addr) way (rows.Rd c ENGINE way (block_start addr)) refl
+    (λ i. Some (group-start k addr i, Rd (tag-start k addr i) way))
 load k n x c addr way (Some v) = load_hits_row k n x c addr v
 
 -- a Store into a copy, by whether its state may be written
-store_held : (k : Shape) (n : State) (x : Option (ℕ × Transaction)) (c addr value v : ℕ) (b : Bool) → length ((n.caches c).lines (group_of k addr) v).words ≡ 8
+store_held : (k : Shape) (n : State) (x : Option (ℕ × Transaction)) (c addr value v : ℕ) (b : Bool)
+    → length ((n.caches c).lines (group_of k addr) v).words ≡ 8
     → Row-agrees k n x c (cond b (table.store_hit k (n.caches c) c addr value v)
     (table.asks (n.caches c) (ops.Store addr value) v (rows.Wr c ENGINE v (block_start addr))))
-    (cond b (Some (group_of k addr, StoreHits c (tag_at k addr) v (word_of addr) value)) (Some (group_of k addr, Asks c v (Store (tag_at k addr) (word_of addr) value))))
+    (cond b (Some (group_of k addr, StoreHits c (tag_at k addr) v (word_of addr) value))
+    (Some (group_of k addr, Asks c v (Store (tag_at k addr) (word_of addr) value))))
 store_held k n x c addr value v true e = store_hits_row k n x c addr value v e
-store_held k n x c addr value v false e = asks_row k n x c (ops.Store addr value) v (rows.Wr c ENGINE v (block_start addr)) refl (λ i. Some (group-start k addr i, Wr (tag-start k addr i) v))
+store_held k n x c addr value v false e =
+    asks_row k n x c (ops.Store addr value) v (rows.Wr c ENGINE v (block_start addr)) refl
+    (λ i. Some (group-start k addr i, Wr (tag-start k addr i) v))
 
-store : (k : Shape) (n : State) (x : Option (ℕ × Transaction)) (c addr value way : ℕ) (o : Option ℕ) → ((v : ℕ) → length ((n.caches c).lines (group_of k addr) v).words ≡ 8)
+store : (k : Shape) (n : State) (x : Option (ℕ × Transaction)) (c addr value way : ℕ) (o : Option ℕ)
+    → ((v : ℕ) → length ((n.caches c).lines (group_of k addr) v).words ≡ 8)
     → Row-agrees k n x c (table.store_row k (n.caches c) c addr value way o)
     (at_way o
     (λ v. cond (is_writable ((world_of k n x).held (group_of k addr) c v).state)
     (Some (group_of k addr, StoreHits c (tag_at k addr) v (word_of addr) value))
     (Some (group_of k addr, Asks c v (Store (tag_at k addr) (word_of addr) value))))
     (Some (group_of k addr, Asks c way (Store (tag_at k addr) (word_of addr) value))))
-store k n x c addr value way None e = asks_row k n x c (ops.Store addr value) way (rows.Wr c ENGINE way (block_start addr)) refl (λ i. Some (group-start k addr i, Wr (tag-start k addr i) way))
+store k n x c addr value way None e =
+    asks_row k n x c (ops.Store addr value) way (rows.Wr c ENGINE way (block_start addr)) refl
+    (λ i. Some (group-start k addr i, Wr (tag-start k addr i) way))
 store k n x c addr value way (Some v) e = store_held k n x c addr value v (is_writable (line_at k (n.caches c) addr v).state) (e v)
 
 evict : (k : Shape) (n : State) (x : Option (ℕ × Transaction)) (c addr : ℕ) (o : Option ℕ)
     → Row-agrees k n x c (table.evict_row (n.caches c) c addr o)
     (at_way o (λ v. Some (group_of k addr, Asks c v (Evict (tag_at k addr)))) (Some (group_of k addr, EvictIdles c (tag_at k addr))))
 evict k n x c addr None = evict_idles_row k n x c addr
-evict k n x c addr (Some v) = asks_row k n x c (ops.Evict addr) v (rows.Evict c ENGINE v (block_start addr)) refl (λ i. Some (group-start k addr i, EvictRequest (tag-start k addr i) v))
+evict k n x c addr (Some v) =
+    asks_row k n x c (ops.Evict addr) v (rows.Evict c ENGINE v (block_start addr)) refl
+    (λ i. Some (group-start k addr i, EvictRequest (tag-start k addr i) v))
 
 row : (k : Shape) (n : State) (x : Option (ℕ × Transaction)) (c : ℕ) (op : Operation) (way : ℕ) → WellFormed k n
     → Row-agrees k n x c (table.issue_row k (n.caches c) c op way) (issue_row k.ways (world_of k n x) c (op_of k op).0 way (op_of k op).1)
 row k n x c (ops.Load addr) way f =
     subst (λ (o : Option ℕ). Row-agrees k n x c (table.load_row k (n.caches c) c addr way (found k (n.caches c) addr))
-    (at_way o (λ v. Some (group_of k addr, LoadHits c (tag_at k addr) v (word_of addr))) (Some (group_of k addr, Asks c way (Load (tag_at k addr) (word_of addr))))))
+    (at_way o (λ v. Some (group_of k addr, LoadHits c (tag_at k addr) v (word_of addr)))
+    (Some (group_of k addr, Asks c way (Load (tag_at k addr) (word_of addr))))))
     (found-find k n x c addr) (load k n x c addr way (found k (n.caches c) addr))
 row k n x c (ops.Store addr value) way f =
     subst (λ (o : Option ℕ). Row-agrees k n x c (table.store_row k (n.caches c) c addr value way (found k (n.caches c) addr))

@@ -28,7 +28,8 @@ use Rattle.bk_bridge.proofs.Same.{world}
 -- the operation is in progress, and its request is sent
 pub asks_row : (k : Shape) (n : State) (x : Option (ℕ × Transaction)) (c : ℕ) (op : Operation) (way : ℕ) (m : Row) → network_of m ≡ networks.Request
     → as_request k m ≡ Some ((op_of k op).0, request_of (op_of k op).1 way)
-    → world_of k (with_taken n c (table.asks (n.caches c) op way m)).state x ≡ step_after (op_of k op).0 (Asks c way (op_of k op).1) (world_of k n x)
+    → world_of k (with_taken n c (table.asks (n.caches c) op way m)).state x ≡ step_after (op_of k op).0 (Asks c way (op_of k op).1)
+    (world_of k n x)
 asks_row k n x c op way m e f = world (record {
   held = table-kept seen_entries n.caches c _ (λ g w. refl);
   words = table-kept seen_words n.caches c _ (λ g w. refl);
@@ -37,7 +38,8 @@ asks_row k n x c op way m e f = world (record {
   busy = put-of (seen_busy k) n.caches c _ _ refl;
   pending = refl;
   memory = refl;
-  request = ap (λ (h : ℕ → List Row). λ i. filter_map (as_request k) (h i)) (request-to c m n.request e) ∙ pushed-to (as_request k) n.request c m _ f;
+  request = ap (λ (h : ℕ → List Row). λ i. filter_map (as_request k) (h i)) (request-to c m n.request e)
+      ∙ pushed-to (as_request k) n.request c m _ f;
   command = refl;
   fill = ap (λ (h : ℕ → ℕ → List Row). λ to from. filter_map (as_fill k) (h to from)) (request-no_fill c m n.fill e);
   response = ap (λ (h : ℕ → List Row). λ i. filter_map (as_response k) (h i)) (request-no_response c m n.response e);
@@ -51,7 +53,8 @@ asks_row k n x c op way m e f = world (record {
 
 -- a Load of a copy: its way is the most recently used, and the answer is the copy's word
 pub load_hits_row : (k : Shape) (n : State) (x : Option (ℕ × Transaction)) (c addr v : ℕ)
-    → world_of k (with_taken n c (table.hits (used (n.caches c) (group_of k addr) v) c (ops.Load addr) (slice_index (line_at k (n.caches c) addr v).words (word_of addr)) v)).state x
+    → world_of k (with_taken n c (table.hits (used (n.caches c) (group_of k addr) v) c (ops.Load addr)
+    (slice_index (line_at k (n.caches c) addr v).words (word_of addr)) v)).state x
     ≡ step_after (group_of k addr) (LoadHits c (tag_at k addr) v (word_of addr)) (world_of k n x)
 load_hits_row k n x c addr v = world (record {
   held = table-kept seen_entries n.caches c _ (λ g w. refl);
@@ -74,14 +77,16 @@ load_hits_row k n x c addr v = world (record {
 })
 
 -- a Store into a copy in E or M: its word is written, and it is in M
-pub store_hits_row : (k : Shape) (n : State) (x : Option (ℕ × Transaction)) (c addr value v : ℕ) → length ((n.caches c).lines (group_of k addr) v).words ≡ 8
+pub store_hits_row : (k : Shape) (n : State) (x : Option (ℕ × Transaction)) (c addr value v : ℕ)
+    → length ((n.caches c).lines (group_of k addr) v).words ≡ 8
     → world_of k (with_taken n c (table.store_hit k (n.caches c) c addr value v)).state x
     ≡ step_after (group_of k addr) (StoreHits c (tag_at k addr) v (word_of addr) value) (world_of k n x)
 store_hits_row k n x c addr value v e = world (record {
   held = table-written seen_entries n.caches c _ (group_of k addr) v _ (line-of entry_of (n.caches c).lines (group_of k addr) v _);
   words = table-written seen_words n.caches c _ (group_of k addr) v _ (λ g w.
       line-of (λ (l : Line). words_of l.words) (n.caches c).lines (group_of k addr) v _ g w
-      ∙ ap (λ (ws : ℕ → ℕ). put {X = ℕ → ℕ → ℕ} (λ g w. words_of ((n.caches c).lines g w).words) (group_of k addr) (put {X = ℕ → ℕ} (λ w. words_of ((n.caches c).lines (group_of k addr) w).words) v ws) g w)
+      ∙ ap (λ (ws : ℕ → ℕ). put {X = ℕ → ℕ → ℕ} (λ g w. words_of ((n.caches c).lines g w).words) (group_of k addr)
+      (put {X = ℕ → ℕ} (λ w. words_of ((n.caches c).lines (group_of k addr) w).words) v ws) g w)
       (word_set _ (word_of addr) value e (word-below addr)));
   directory = refl;
   recency = pair-written seen_recency n.caches c _ (group_of k addr) _ (used-recency (n.caches c) (group_of k addr) v);
@@ -102,7 +107,8 @@ store_hits_row k n x c addr value v e = world (record {
 
 -- an Evict of a block that isn't there is done at once
 pub evict_idles_row : (k : Shape) (n : State) (x : Option (ℕ × Transaction)) (c addr : ℕ)
-    → world_of k (with_taken n c (table.hits (n.caches c) c (ops.Evict addr) 0 0)).state x ≡ step_after (group_of k addr) (EvictIdles c (tag_at k addr)) (world_of k n x)
+    → world_of k (with_taken n c (table.hits (n.caches c) c (ops.Evict addr) 0 0)).state x ≡ step_after (group_of k addr)
+    (EvictIdles c (tag_at k addr)) (world_of k n x)
 evict_idles_row k n x c addr = world (record {
   held = table-kept seen_entries n.caches c _ (λ g w. refl);
   words = table-kept seen_words n.caches c _ (λ g w. refl);

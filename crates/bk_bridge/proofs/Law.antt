@@ -26,9 +26,12 @@ some-is a b e = cc
 
 pub event_step : (k : Shape) (program : List Form) (n : State) (x : Option (ℕ × Transaction)) (e : Event) (m : machine.Event)
     → WellFormed k n → IsLawful e → event_of k e ≡ Some m → IsStep k program n x e m
-event_step k program n x (events.Issue c op way) m f l e = subst (IsStep k program n x (events.Issue c op way)) (some-is _ _ e) (issue_step k program n x c op way f)
-event_step k program n x (events.Command c) m f l e = subst (IsStep k program n x (events.Command c)) (some-is _ _ e) (command_step k program n x c f)
-event_step k program n x (events.Fill to from) m f l e = subst (IsStep k program n x (events.Fill to from)) (some-is _ _ e) (fill_step k program n x to from f)
+event_step k program n x (events.Issue c op way) m f l e =
+    subst (IsStep k program n x (events.Issue c op way)) (some-is _ _ e) (issue_step k program n x c op way f)
+event_step k program n x (events.Command c) m f l e =
+    subst (IsStep k program n x (events.Command c)) (some-is _ _ e) (command_step k program n x c f)
+event_step k program n x (events.Fill to from) m f l e =
+    subst (IsStep k program n x (events.Fill to from)) (some-is _ _ e) (fill_step k program n x to from f)
 event_step k program n x events.Memory m f l e = subst (IsStep k program n x events.Memory) (some-is _ _ e) (memory_step k program n x f)
 event_step k program n x (events.Engine choice) m f l e = absurd (cc e)
 
@@ -36,11 +39,13 @@ event_step k program n x (events.Engine choice) m f l e = absurd (cc e)
 before : (k : Shape) (program : List Form) (n : State) (x : Option (ℕ × Transaction)) (e : Event) (m : machine.Event) (es : List Event)
     → IsStep k program n x e m → event_of k e ≡ Some m → IsRun k program (after k program n e) x es → IsRun k program n x (e ∷ es)
 before k program n x e m es s o r = record {
-  left = r.left ∙ ap (machine.run k (events_of k es)) s.left ∙ ap (λ (y : Option machine.Event). machine.run k (cons_option y (events_of k es)) (world_of k n x)) (sym o);
+  left = r.left ∙ ap (machine.run k (events_of k es)) s.left
+      ∙ ap (λ (y : Option machine.Event). machine.run k (cons_option y (events_of k es)) (world_of k n x)) (sym o);
   formed = r.formed;
 }
 
-pub run-is : (k : Shape) (program : List Form) (n : State) (x : Option (ℕ × Transaction)) (es : List Event) → WellFormed k n → AreLawful es → AreOutside es → IsRun k program n x es
+pub run-is : (k : Shape) (program : List Form) (n : State) (x : Option (ℕ × Transaction)) (es : List Event) → WellFormed k n → AreLawful es
+    → AreOutside es → IsRun k program n x es
 run-is k program n x [] f l q = record { left = refl; formed = f }
 run-is k program n x (events.Issue c op way ∷ es) f l q =
     before k program n x (events.Issue c op way) _ es (issue_step k program n x c op way f) refl
@@ -58,8 +63,10 @@ run-is k program n x (events.Engine choice ∷ es) f l q = absurd q.0
 
 pub run-from_opening : (k : Shape) (program : List Form) (es : List Event) → InProfile k → AreLawful es → AreOutside es
     → world_of k (system.run k program es) None ≡ machine.run k (events_of k es) (empty k.ways)
-run-from_opening k program es p l q = (run-is k program (opening k) None es (opens_formed k p) l q).left ∙ ap (machine.run k (events_of k es)) (opens_empty k)
+run-from_opening k program es p l q =
+    (run-is k program (opening k) None es (opens_formed k p) l q).left ∙ ap (machine.run k (events_of k es)) (opens_empty k)
 
 pub reached-step : (k : Shape) (program : List Form) (es : List Event) (x : Option (ℕ × Transaction)) (e : Event) (m : machine.Event)
     → InProfile k → AreLawful es → IsLawful e → event_of k e ≡ Some m → IsStep k program (system.run k program es) x e m
-reached-step k program es x e m p ls l i = event_step k program (system.run k program es) x e m (run-keeps k program (opening k) es (opens_formed k p) ls) l i
+reached-step k program es x e m p ls l i =
+    event_step k program (system.run k program es) x e m (run-keeps k program (opening k) es (opens_formed k p) ls) l i

@@ -18,7 +18,8 @@ use Rattle.bk_bridge.proofs.MemoryWrites.{block_written, word_written, block_rea
 use Rattle.bk_bridge.proofs.Same.{world}
 
 -- a step where the head is this one
-head-step : (k : Shape) (program : List Form) (n : State) (x : Option (ℕ × Transaction)) (m : Row) (ms : List Row) → 0 < k.sets → IsOf networks.Memout m
+head-step : (k : Shape) (program : List Form) (n : State) (x : Option (ℕ × Transaction)) (m : Row) (ms : List Row) → 0 < k.sets
+    → IsOf networks.Memout m
     → IsStep k program (record n { memout = m ∷ ms }) x events.Memory machine.Memory
 head-step k program n x (rows.Read from to addr) ms l h = record {
   enabled = refl;
@@ -39,7 +40,8 @@ head-step k program n x (rows.Read from to addr) ms l h = record {
     history = refl;
     taken = refl;
     settled = refl;
-    memin = pushed (as_block k) n.memin _ _ (λ i. Some (group-start k addr i, record { tag = tag-start k addr i; words = block_read k n.memory addr l i }));
+    memin = pushed (as_block k) n.memin _ _ (λ i. Some
+        (group-start k addr i, record { tag = tag-start k addr i; words = block_read k n.memory addr l i }));
   });
 }
 head-step k program n x (rows.Write from to addr words) ms l h = record {
@@ -93,5 +95,6 @@ channel-step : (k : Shape) (program : List Form) (n : State) (x : Option (ℕ ×
 channel-step k program n x [] l h = record { enabled = refl; left = refl }
 channel-step k program n x (m ∷ ms) l h = head-step k program n x m ms l h.0
 
-pub memory_step : (k : Shape) (program : List Form) (n : State) (x : Option (ℕ × Transaction)) → WellFormed k n → IsStep k program n x events.Memory machine.Memory
+pub memory_step : (k : Shape) (program : List Form) (n : State) (x : Option (ℕ × Transaction)) → WellFormed k n
+    → IsStep k program n x events.Memory machine.Memory
 memory_step k program n x f = channel-step k program n x n.memout (sets_pos k f.profile) f.memout

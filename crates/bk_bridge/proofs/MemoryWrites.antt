@@ -26,11 +26,13 @@ block-at : (k : Shape) (memory : ℕ → ℕ) (addr : ℕ) (ws : List ℕ) (s t 
 block-at k memory addr ws s t i l h = lem (t * k.sets + s) (same_block k s t addr l)
   where
     lem : (b : ℕ) → eqb b (block_of addr) ≡ (eqb s (group_of k addr) && eqb t (tag_at k addr))
-        → with_block memory addr ws (b * 64 + i * 8) ≡ cond (eqb s (group_of k addr) && eqb t (tag_at k addr)) (get_or ws i 0) (memory (b * 64 + i * 8))
+        → with_block memory addr ws (b * 64 + i * 8) ≡ cond (eqb s (group_of k addr) && eqb t (tag_at k addr)) (get_or ws i 0)
+        (memory (b * 64 + i * 8))
     lem b e = grind (arith, nat_tests, address-block b i h, address-word b i h, address-aligned b i)
 
 pub block_written : (k : Shape) (memory : ℕ → ℕ) (addr : ℕ) (ws : List ℕ) → 0 < k.sets → length ws ≡ 8
-    → word_at k (with_block memory addr ws) ≡ put (word_at k memory) (group_of k addr) (write_block (word_at k memory (group_of k addr)) (tag_at k addr) (words_of ws))
+    → word_at k (with_block memory addr ws) ≡ put (word_at k memory) (group_of k addr)
+    (write_block (word_at k memory (group_of k addr)) (tag_at k addr) (words_of ws))
 unfolding put
 block_written k memory addr ws l e = fun_ext (λ s. fun_ext (λ t. fun_ext (λ i. at s t i)))
   where

@@ -48,7 +48,8 @@ pub word-below : (a : ℕ) → word_of a < 8
 word-below a = omega arith
 
 -- two blocks are one where group and tag are the same, of addresses
-pub blocks : (k : Shape) (a b : ℕ) → 0 < k.sets → eqb (block_of a) (block_of b) ≡ (eqb (group_of k a) (group_of k b) && eqb (tag_at k a) (tag_at k b))
+pub blocks : (k : Shape) (a b : ℕ) → 0 < k.sets
+    → eqb (block_of a) (block_of b) ≡ (eqb (group_of k a) (group_of k b) && eqb (tag_at k a) (tag_at k b))
 blocks k a b l = block_by_parts k.sets (block_of a) (block_of b) l
 
 -- two words are one where their parts are

@@ -32,22 +32,27 @@ joined (suc n) f h = both (join_below n f) (f n) (joined n f h) (h n)
 
 invs-whole : (k : Shape) (held : Held) (with_owner : Bool) (s : Summary) → IsAddr held.addr → AreWhole (invs k held with_owner s)
 invs-whole k held with_owner s a =
-    joined k.caches (inv_to held with_owner s) (λ c. cond-all AreWhole (is_invalidated with_owner s c) _ [] (record { address = start_IsAddr held.addr a; block = tt }, tt) tt)
+    joined k.caches (inv_to held with_owner s)
+    (λ c. cond-all AreWhole (is_invalidated with_owner s c) _ [] (record { address = start_IsAddr held.addr a; block = tt }, tt) tt)
 
 flush_to-whole : (at : Option (ℕ × ℕ)) (state : Coh) (addr : ℕ) → IsAddr addr → AreWhole (flush_to at state addr)
 flush_to-whole None state addr a = tt
 flush_to-whole (Some at) state addr a = (record { address = start_IsAddr addr a; block = tt }, tt)
 
-flushes-whole : (k : Shape) (d : Contents) (held : Held) (who : ℕ) (state : Coh) → IsAddr held.addr → IsAddr (victim_address k d held) → AreWhole (flushes k d held who state)
+flushes-whole : (k : Shape) (d : Contents) (held : Held) (who : ℕ) (state : Coh) → IsAddr held.addr → IsAddr (victim_address k d held)
+    → AreWhole (flushes k d held who state)
 flushes-whole k d held who state a v =
     cond-all AreWhole (who == 0) _ _ (record { address = start_IsAddr held.addr a; block = tt }, tt)
-    (cond-all AreWhole (who == 1) _ _ (flush_to-whole (summary_for k d held).owner state held.addr a) (record { address = start_IsAddr (victim_address k d held) v; block = tt }, tt))
+    (cond-all AreWhole (who == 1) _ _ (flush_to-whole (summary_for k d held).owner state held.addr a)
+    (record { address = start_IsAddr (victim_address k d held) v; block = tt }, tt))
 
-transfer_to-whole : (held : Held) (at : Option (ℕ × ℕ)) (owner_state state : Coh) → IsAddr held.addr → AreWhole (transfer_to held at owner_state state)
+transfer_to-whole : (held : Held) (at : Option (ℕ × ℕ)) (owner_state state : Coh) → IsAddr held.addr
+    → AreWhole (transfer_to held at owner_state state)
 transfer_to-whole held None owner_state state a = tt
 transfer_to-whole held (Some at) owner_state state a = (record { address = start_IsAddr held.addr a; block = tt }, tt)
 
-grants-whole : (held : Held) (state : Coh) (got : Option (List ℕ)) → IsAddr held.addr → IfSome got (λ words. length words ≡ 8) → AreWhole (grants held state got)
+grants-whole : (held : Held) (state : Coh) (got : Option (List ℕ)) → IsAddr held.addr → IfSome got (λ words. length words ≡ 8)
+    → AreWhole (grants held state got)
 grants-whole held state None a e = tt
 grants-whole held state (Some words) a e = (record { address = start_IsAddr held.addr a; block = e }, tt)
 
@@ -59,9 +64,12 @@ back-whole : (kept : Option Kept) → IfSome kept (λ d. IsAddr d.addr × (lengt
 back-whole None h = tt
 back-whole (Some kept) h = (record { address = start_IsAddr kept.addr h.0; block = h.1 }, tt)
 
-for-whole : (k : Shape) (n : EngineState) (held : Held) (f : Form) → InProfile k → WellFormedEngine k n → IsAddr held.addr → AreWhole (sends_for k n held f)
+for-whole : (k : Shape) (n : EngineState) (held : Held) (f : Form) → InProfile k → WellFormedEngine k n → IsAddr held.addr
+    → AreWhole (sends_for k n held f)
 for-whole k n held (Inv a') p h a = invs-whole k held (a' == 1) (summary_for k n.directory held) a
-for-whole k n held (Stwb who state) p h a = flushes-whole k n.directory held who state a (in_IsAddr k (group_of k held.addr) _ p (mod-lt _ (sets_pos k p)) (h.entries held.source (group_of k held.addr) held.way))
+for-whole k n held (Stwb who state) p h a =
+    flushes-whole k n.directory held who state a
+    (in_IsAddr k (group_of k held.addr) _ p (mod-lt _ (sets_pos k p)) (h.entries held.source (group_of k held.addr) held.way))
 for-whole k n held (Tr owner_state state) p h a = transfer_to-whole held (summary_for k n.directory held).owner owner_state state a
 for-whole k n held (Blk state) p h a = grants-whole held state n.core.got a h.got
 for-whole k n held Wake p h a = (record { address = start_IsAddr held.addr a; block = tt }, tt)
@@ -72,7 +80,8 @@ for-whole k n held Memrd p h a = (record { address = start_IsAddr held.addr a; b
 for-whole k n held Memww p h a = (record { address = a; block = tt }, tt)
 for-whole k n held f p h a = tt
 
-held-whole : (k : Shape) (n : EngineState) (held : Option Held) (f : Form) → InProfile k → WellFormedEngine k n → IfSome held (λ y. IsAddr y.addr) → AreWhole (sends_held k n held f)
+held-whole : (k : Shape) (n : EngineState) (held : Option Held) (f : Form) → InProfile k → WellFormedEngine k n → IfSome held (λ y. IsAddr y.addr)
+    → AreWhole (sends_held k n held f)
 held-whole k n None f p h a = tt
 held-whole k n (Some held) f p h a = for-whole k n held f p h a
 

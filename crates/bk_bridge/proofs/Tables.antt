@@ -10,7 +10,8 @@ of-cond : {X Y : Type 0} (f : X → Y) (b : Bool) (x y : X) → f (cond b x y) �
 of-cond f true x y = refl
 of-cond f false x y = refl
 
-put-same_at : {X Y : Type 0} (f : X → Y) (m : ℕ → X) (c : ℕ) (n : X) → f n ≡ f (m c) → (i : ℕ) (b : Bool) → eqb i c ≡ b → f (cond b n (m i)) ≡ f (m i)
+put-same_at : {X Y : Type 0} (f : X → Y) (m : ℕ → X) (c : ℕ) (n : X) → f n ≡ f (m c) → (i : ℕ) (b : Bool) → eqb i c ≡ b
+    → f (cond b n (m i)) ≡ f (m i)
 put-same_at f m c n e i true t = e ∙ ap (λ (j : ℕ). f (m j)) (sym (eqb-true i c t))
 put-same_at f m c n e i false t = refl
 
@@ -20,7 +21,8 @@ unfolding put
 put-same f m c n e = fun_ext (λ i. put-same_at f m c n e i (eqb i c) refl)
 
 -- what a write gives of its value, it gives there
-pub put-of : {X Y : Type 0} (f : X → Y) (m : ℕ → X) (c : ℕ) (n : X) (y : Y) → f n ≡ y → ◌≡◌ {A = ℕ → Y} (λ i. f (put m c n i)) (put (λ i. f (m i)) c y)
+pub put-of : {X Y : Type 0} (f : X → Y) (m : ℕ → X) (c : ℕ) (n : X) (y : Y) → f n ≡ y
+    → ◌≡◌ {A = ℕ → Y} (λ i. f (put m c n i)) (put (λ i. f (m i)) c y)
 unfolding put
 put-of {Y = Y} f m c n y e = fun_ext (λ i. of-cond f (eqb i c) n (m i) ∙ ap (λ (z : Y). cond (eqb i c) z (f (m i))) e)
 

@@ -26,7 +26,8 @@ whole-blocks : (n : ℕ) → is_set_count n ≡ true → 2 ^ 34 / n * n ≡ 2 ^ 
 whole-blocks n e = grind (arith, nat_tests)
 
 pub tag_below : (k : Shape) (a : ℕ) → InProfile k → IsAddr a → tag_at k a < tag_limit k
-tag_below k a p h = div_below (block_of a) k.sets (tag_limit k) (sets_pos k p) (subst (λ (m : ℕ). block_of a < m) (sym (whole-blocks k.sets p.sets)) block)
+tag_below k a p h =
+    div_below (block_of a) k.sets (tag_limit k) (sets_pos k p) (subst (λ (m : ℕ). block_of a < m) (sym (whole-blocks k.sets p.sets)) block)
   where
     below : a < 2 ^ 40
     below = h.below
@@ -35,7 +36,8 @@ tag_below k a p h = div_below (block_of a) k.sets (tag_limit k) (sets_pos k p) (
     block = omega arith
 
 pub in_IsAddr : (k : Shape) (s t : ℕ) → InProfile k → s < k.sets → t < tag_limit k → IsAddr (address_in k s t)
-in_IsAddr k s t p l h = lem (t * k.sets + s) (subst (λ (m : ℕ). t * k.sets + s < m) (whole-blocks-turned k.sets p.sets) (mul-add-lt t k.sets s (tag_limit k) h l))
+in_IsAddr k s t p l h =
+    lem (t * k.sets + s) (subst (λ (m : ℕ). t * k.sets + s < m) (whole-blocks-turned k.sets p.sets) (mul-add-lt t k.sets s (tag_limit k) h l))
   where
     whole-blocks-turned : (n : ℕ) → is_set_count n ≡ true → n * (2 ^ 34 / n) ≡ 2 ^ 34
     whole-blocks-turned n e = grind (arith, nat_tests)
@@ -47,7 +49,8 @@ in_IsAddr k s t p l h = lem (t * k.sets + s) (subst (λ (m : ℕ). t * k.sets + 
 abbrev pub TagsBelow : Shape → Contents → Type 0
 TagsBelow k d = (c s w : ℕ) → (d.entries c s w).tag < tag_limit k
 
-pub entry_below : (k : Shape) (d : Contents) (c s w : ℕ) (entry : Entry) → TagsBelow k d → entry.tag < tag_limit k → TagsBelow k (with_entry d c s w entry)
+pub entry_below : (k : Shape) (d : Contents) (c s w : ℕ) (entry : Entry) → TagsBelow k d → entry.tag < tag_limit k
+    → TagsBelow k (with_entry d c s w entry)
 entry_below k d c s w entry h l =
     put-all (λ (table : ℕ → ℕ → Entry). (s w : ℕ) → (table s w).tag < tag_limit k) d.entries c _ h
     (put-all (λ (row : ℕ → Entry). (w : ℕ) → (row w).tag < tag_limit k) (d.entries c) s _ (h c)
@@ -69,20 +72,24 @@ named_below k d held who state h =
 wiped_below : (k : Shape) (row : ℕ → Entry) (tag w : ℕ) → ((w : ℕ) → (row w).tag < tag_limit k) → (wiped tag (row w)).tag < tag_limit k
 wiped_below k row tag w h = cond-all (λ (y : Entry). y.tag < tag_limit k) (holds (row w) tag) _ _ (h w) (h w)
 
-invalidated_below : (k : Shape) (d : Contents) (held : Held) (with_owner : Bool) (sum : Summary) → TagsBelow k d → TagsBelow k (invalidates k d held with_owner sum)
+invalidated_below : (k : Shape) (d : Contents) (held : Held) (with_owner : Bool) (sum : Summary) → TagsBelow k d
+    → TagsBelow k (invalidates k d held with_owner sum)
 invalidated_below k d held with_owner sum h c =
     cond-all (λ (table : ℕ → ℕ → Entry). (s w : ℕ) → (table s w).tag < tag_limit k) (is_invalidated with_owner sum c) _ _
-    (put-all (λ (row : ℕ → Entry). (w : ℕ) → (row w).tag < tag_limit k) (d.entries c) (group_of k held.addr) _ (h c) (λ w. wiped_below k (d.entries c (group_of k held.addr)) (tag_at k held.addr) w (h c (group_of k held.addr))))
+    (put-all (λ (row : ℕ → Entry). (w : ℕ) → (row w).tag < tag_limit k) (d.entries c) (group_of k held.addr) _ (h c)
+    (λ w. wiped_below k (d.entries c (group_of k held.addr)) (tag_at k held.addr) w (h c (group_of k held.addr))))
     (h c)
 
-for_below : (k : Shape) (d : Contents) (held : Held) (f : Form) → InProfile k → IsAddr held.addr → TagsBelow k d → TagsBelow k (directory_for k d held f)
+for_below : (k : Shape) (d : Contents) (held : Held) (f : Form) → InProfile k → IsAddr held.addr → TagsBelow k d
+    → TagsBelow k (directory_for k d held f)
 for_below k d held (Wde state) p a h = entry_below k d held.source (group_of k held.addr) held.way _ h (tag_below k held.addr p a)
 for_below k d held (Wds who state) p a h = named_below k d held who state h
 for_below k d held (Inv a') p a h = invalidated_below k d held (a' == 1) (summary_for k d held) h
 for_below k d held (Stwb who state) p a h = named_below k d held who state h
 for_below k d held f p a h = h
 
-held_below : (k : Shape) (d : Contents) (held : Option Held) (f : Form) → InProfile k → IfSome held (λ y. IsAddr y.addr) → TagsBelow k d → TagsBelow k (directory_held k d held f)
+held_below : (k : Shape) (d : Contents) (held : Option Held) (f : Form) → InProfile k → IfSome held (λ y. IsAddr y.addr) → TagsBelow k d
+    → TagsBelow k (directory_held k d held f)
 held_below k d None f p a h = h
 held_below k d (Some held) f p a h = for_below k d held f p a h
 
@@ -93,6 +100,7 @@ head_below : (k : Shape) (d : Contents) (head : Option Head) → TagsBelow k d �
 head_below k d None h = h
 head_below k d (Some head) h = marked_below k d (head_number head.message) head.message h
 
-pub directory_below : (k : Shape) (n : EngineState) (f : Form) → InProfile k → IfSome n.core.held (λ y. IsAddr y.addr) → TagsBelow k n.directory → TagsBelow k (directory_after k n f)
+pub directory_below : (k : Shape) (n : EngineState) (f : Form) → InProfile k → IfSome n.core.held (λ y. IsAddr y.addr) → TagsBelow k n.directory
+    → TagsBelow k (directory_after k n f)
 directory_below k n (Popq wp) p a h = cond-all (TagsBelow k) (wp == 1) _ _ (head_below k n.directory n.core.head h) h
 directory_below k n f p a h = held_below k n.directory n.core.held f p a h

@@ -60,7 +60,8 @@ abbrev pub EventsKeepForm : Type 0
 EventsKeepForm = (k : Shape) (program : List Form) (n : State) (e : Event) → WellFormed k n → IsLawful e → WellFormed k (after k program n e)
 
 abbrev pub RunsKeepForm : Type 0
-RunsKeepForm = (k : Shape) (program : List Form) (n : State) (es : List Event) → WellFormed k n → AreLawful es → WellFormed k (run_from k program n es)
+RunsKeepForm =
+    (k : Shape) (program : List Form) (n : State) (es : List Event) → WellFormed k n → AreLawful es → WellFormed k (run_from k program n es)
 
 -- whatever the program did before, an event of a cache or the memory is a step of the machine
 abbrev pub ReachedStatesStep : Type 0
