@@ -24,3 +24,4 @@ pub mod Tags
 pub mod CoreFormed
 pub mod SendsFormed
 pub mod EngineEvent
+pub mod EngineWrites
