@@ -1,0 +1,85 @@
+-- What each state has that a run comes to, as far as the machine's view rests on it: messages stand in the channels of their own
+-- networks, blocks have eight words, and addresses are those of words.
+use Rattle.std.specs.Prelude.{◌≡◌, ◌<◌, ℕ, List, [], ◌∷◌, length, IfSome}
+use Rattle.bk_base.specs.Places.{Shape, InProfile, IsAddr, tag_limit}
+use Rattle.bk_base.specs.declared.op.Op.{Op}
+use Rattle.bk_base.specs.declared.op.Op.TheVariants.{Load, Store, UcLoad, UcStore, Evict}
+use Rattle.bk_msg.specs.declared.row.Row.{Row}
+use Rattle.bk_msg.specs.declared.row.Row.TheVariants as rows
+use Rattle.bk_msg.specs.declared.row.Network.{Network}
+use Rattle.bk_msg.specs.declared.row.Network.TheVariants as networks
+use Rattle.bk_msg.specs.Networks.{network_of, address_of}
+use Rattle.bk_engine.specs.Core.{EngineState}
+use Rattle.bk_system.specs.declared.event.Event.{Event}
+use Rattle.bk_system.specs.declared.event.Event.TheVariants as events
+use Rattle.bk_system.specs.State.{State}
+
+-- EVENTS
+
+abbrev pub address_in_op : Op → ℕ
+address_in_op (Load addr) = addr
+address_in_op (Store addr value) = addr
+address_in_op (UcLoad addr) = addr
+address_in_op (UcStore addr value) = addr
+address_in_op (Evict addr) = addr
+
+-- An event as the product's types have it: an operation's address is below 2^40 and a multiple of 8. (Nothing here wants a bound
+-- on values.)
+abbrev pub IsLawful : Event → Type 0
+IsLawful (events.Issue c op way) = IsAddr (address_in_op op)
+IsLawful (events.Command c) = Unit {0}
+IsLawful (events.Fill to from) = Unit {0}
+IsLawful events.Memory = Unit {0}
+IsLawful (events.Engine choice) = Unit {0}
+
+abbrev pub AreLawful : List Event → Type 0
+AreLawful [] = Unit {0}
+AreLawful (e ∷ es) = IsLawful e × AreLawful es
+
+-- MESSAGES
+
+-- the block of a message that carries one has eight words
+abbrev pub HasEight : Row → Type 0
+HasEight (rows.Blk _ _ _ _ _ words) = length words ≡ 8
+HasEight (rows.Fill _ _ _ _ _ words) = length words ≡ 8
+HasEight (rows.Wb _ _ _ words) = length words ≡ 8
+HasEight (rows.Write _ _ _ words) = length words ≡ 8
+HasEight (rows.Block _ _ _ words) = length words ≡ 8
+HasEight _ = Unit {0}
+
+pub record IsWhole (m : Row) : Type 0 where
+  pub address : IsAddr (address_of m)
+  pub block : HasEight m
+
+-- a message of a network
+pub record IsOf (network : Network) (m : Row) : Type 0 where
+  pub is : network_of m ≡ network
+  pub whole : IsWhole m
+
+-- the messages of a channel
+abbrev pub AreOf : Network → List Row → Type 0
+AreOf network [] = Unit {0}
+AreOf network (m ∷ ms) = IsOf network m × AreOf network ms
+
+-- STATES
+
+-- The engine's own copies: the head that it looks at, the request that it holds, the block that it keeps for memory, the words that
+-- memory has answered, and the tags of its directory.
+pub record WellFormedEngine (k : Shape) (n : EngineState) : Type 0 where
+  pub head : IfSome n.core.head (λ h. IsWhole h.message)
+  pub held : IfSome n.core.held (λ h. IsAddr h.addr)
+  pub dirty : IfSome n.core.dirty (λ d. IsAddr d.addr × (length d.words ≡ 8))
+  pub got : IfSome n.core.got (λ words. length words ≡ 8)
+  pub entries : (c s w : ℕ) → (n.directory.entries c s w).tag < tag_limit k
+
+pub record WellFormed (k : Shape) (n : State) : Type 0 where
+  pub profile : InProfile k
+  pub lines : (c s w : ℕ) → length ((n.caches c).lines s w).words ≡ 8
+  pub busy : (c : ℕ) → IfSome (n.caches c).busy (λ b. IsAddr (address_in_op b.op))
+  pub request : (c : ℕ) → AreOf networks.Request (n.request c)
+  pub command : (c : ℕ) → AreOf networks.Command (n.command c)
+  pub fill : (to from : ℕ) → AreOf networks.Fill (n.fill to from)
+  pub response : (c : ℕ) → AreOf networks.Response (n.response c)
+  pub memout : AreOf networks.Memout n.memout
+  pub memin : AreOf networks.Memin n.memin
+  pub engine : WellFormedEngine k n.engine

@@ -1,0 +1,3 @@
+pub mod Worlds
+pub mod Formed
+pub mod Bridge
