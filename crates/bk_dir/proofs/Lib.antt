@@ -1,0 +1,4 @@
+pub mod Bits
+pub mod EntryTests
+pub mod Kept
+pub mod SummaryLaws

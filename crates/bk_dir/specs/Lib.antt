@@ -1,4 +1,5 @@
 pub mod Contents
 pub mod Directories
 pub mod Kept
+pub mod Laws
 pub mod Summaries

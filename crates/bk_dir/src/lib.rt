@@ -3,6 +3,11 @@
 
 mod directory;
 mod entry;
+pub mod laws;
+mod summaries;
 
 pub use directory::Directory;
 pub use entry::{Asked, Entry, Summary};
+
+#[cfg(test)]
+mod tests;

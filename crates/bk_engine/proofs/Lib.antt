@@ -1,2 +1,4 @@
-pub mod Bits
-pub mod Sources
+pub mod InstructionLaws
+pub mod Outward
+pub mod Sound
+pub mod Wiping

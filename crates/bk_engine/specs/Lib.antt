@@ -1,3 +1,14 @@
+pub mod Changes
 pub mod Core
-pub mod Groups
+pub mod Engines
+pub mod Heads
+pub mod Kept
+pub mod Laws
+pub mod Outward
+pub mod Ranges
+pub mod Reads
+pub mod Running
+pub mod Sends
 pub mod Step
+pub mod Stops
+pub mod Wiping

@@ -1,12 +1,22 @@
 //! The engine: what one instruction of its microcode does.
 #![tactic(auto)]
 
-mod change;
+mod changes;
+mod directory;
+mod engine;
+mod heads;
+pub mod laws;
 mod parts;
-mod rows;
+mod reads;
+mod registers;
+mod sends;
+mod step;
 mod stop;
 
-pub use change::{Mark, run};
+pub use engine::{Engine, EngineStep};
+pub use heads::{COH_ACK, REQUEST, head_number, names_class};
 pub use parts::{Choice, Core, Head, Held, Kept, RequestKind};
-pub use rows::names_class;
-pub use stop::{Effect, Halt, Stop, effect_of, stop_of};
+pub use stop::{Halt, Stop};
+
+#[cfg(test)]
+mod tests;

@@ -2,7 +2,7 @@ ghost use Rattle.std.specs.Prelude.{◌≡◌};
 ghost use Rattle.bk_engine.specs.Core.{new_core};
 
 use bk_base::Addr;
-use bk_msg::Row;
+use bk_msg::Message;
 
 /// A channel's head that `wfq` takes: its class and its source.
 /// The classes are 1 for responses, 2 for memory and 3 for requests; memory has source 0.
@@ -17,7 +17,7 @@ pub struct Choice {
 #[derive(Clone, Copy, Debug, PartialEq, Eq)]
 pub struct Head {
     pub choice: Choice,
-    pub message: Row,
+    pub message: Message,
 }
 
 /// What a request asks for.
@@ -43,7 +43,7 @@ pub struct Held {
     pub value: u64,
 }
 
-/// A dirty block on its way to memory.
+/// A dirty block on its way to memory. Its address is that of its first word.
 #[derive(Clone, Copy, Debug, PartialEq, Eq)]
 pub struct Kept {
     pub addr: Addr,

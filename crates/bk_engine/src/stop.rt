@@ -1,14 +1,19 @@
-ghost use Rattle.std.specs.Prelude.{◌≡◌, ◌≤◌, ◌<◌, ℕ, length, None};
+ghost use Rattle.std.specs.Prelude.{◌≡◌, ◌<◌, length};
 ghost use Rattle.std.specs.Option.{option_copied};
-ghost use Rattle.bk_engine.specs.Step.{halts_unless, wait_stop, pop_stop, branch_stop, push_stop, form_stop, stop_of, sends, pops, form_effect, effect_of, ComesFromBelow, ConcernsBelow};
+ghost use Rattle.bk_isa.specs.Operands.{Operands};
+ghost use Rattle.bk_dir.specs.Directories.{contents_of};
+ghost use Rattle.bk_engine.specs.Kept.{IsSound};
+ghost use Rattle.bk_engine.specs.Stops.{halts_unless, wait_stop, pop_stop, branch_stop, entry_stop, named_entry, block_stop, request_stop, push_stop, directory_stop, form_stop, stop_of};
 
-use crate::parts::{Choice, Core, Head, Held};
-use crate::rows::{REQUEST, head_number, head_value, names_class};
-use bk_base::{Addr, word_of};
+use crate::heads::{BLOCK, INV_ACK, NO_HEAD, REQUEST, WB, head_number, head_value, names_class};
+use crate::parts::{Choice, Core, Head};
+use crate::reads::{has_own, has_owner, has_victim};
+use bk_base::Config;
+use bk_dir::Directory;
 use bk_isa::{Form, Instr};
-use bk_msg::{ENGINE, MEMORY, Row};
+use bk_msg::Message;
 
-/// Why an engine halts. An engine that halts changes nothing.
+/// Why an engine halts. An engine that halts changes nothing, and never runs again.
 #[derive(Clone, Copy, Debug, PartialEq, Eq)]
 pub enum Halt {
     /// There is no instruction at the place.
@@ -17,12 +22,14 @@ pub enum Halt {
     Head,
     /// The request is missing, or one is already held.
     Request,
+    /// The directory isn't read far enough for the request.
+    Summary,
+    /// There is no such entry to act on.
+    Target,
     /// A block is missing, or one is already kept.
     Block,
     /// No acknowledgement is to come.
     Acks,
-    /// The engine doesn't run this instruction yet.
-    NotBuilt,
 }
 
 /// Why an instruction doesn't run.
@@ -31,16 +38,6 @@ pub enum Stop {
     /// A `wfq` of these classes has no head offered of one of them.
     Waits(u8),
     Halts(Halt),
-}
-
-/// What an instruction does outside the engine.
-#[derive(Clone, Copy, Debug, PartialEq, Eq)]
-pub enum Effect {
-    Inside,
-    /// The message goes to the end of its channel.
-    Sends(Row),
-    /// The channel's head is taken off.
-    Pops(Choice),
 }
 
 fn halts_unless(met: bool, reason: Halt, later: Option<Stop>) -> Option<Stop>
@@ -57,7 +54,7 @@ fn wait_stop(
     head: &Option<Head>,
     classes: u8,
     choice: Choice,
-    message: Option<&Row>,
+    message: Option<&Message>,
 ) -> Option<Stop>
     ensures { result ≡ wait_stop head.now classes choice (option_copied message.entry) }
 {
@@ -82,11 +79,11 @@ fn pop_stop(core: &Core) -> Option<Stop>
     let Some(head) = &core.head else {
         return Some(Stop::Halts(Halt::Head));
     };
-    match head_number(&head.message) {
+    match head_number(&head.message.row()) {
         REQUEST => halts_unless(core.held.is_none(), Halt::Request, None),
-        2 => halts_unless(0 < core.acks, Halt::Acks, None),
-        4 => halts_unless(core.dirty.is_none(), Halt::Block, None),
-        7 => Some(Stop::Halts(Halt::Head)),
+        INV_ACK => halts_unless(0 < core.acks, Halt::Acks, None),
+        WB => halts_unless(core.dirty.is_none(), Halt::Block, None),
+        NO_HEAD => Some(Stop::Halts(Halt::Head)),
         _ => None,
     }
 }
@@ -95,117 +92,121 @@ fn branch_stop(core: &Core, field: u8) -> Option<Stop>
     ensures { result ≡ branch_stop core.now field }
 {
     match field {
-        2 => None,
         3 => halts_unless(head_value(&core.head) == REQUEST, Halt::Head, None),
         4 => halts_unless(core.held.is_some(), Halt::Request, None),
-        _ => Some(Stop::Halts(Halt::NotBuilt)),
+        6..=9 => halts_unless(1 < core.summ, Halt::Summary, None),
+        _ => None,
     }
+}
+
+fn entry_stop(core: &Core, is_there: bool) -> Option<Stop>
+    ensures { result ≡ entry_stop core.now is_there }
+{
+    let target = halts_unless(is_there, Halt::Target, None);
+    halts_unless(1 < core.summ, Halt::Summary, target)
+}
+
+/// Whether there is such an entry: the requester's own (0), the owner's (1), the victim (2).
+fn named_entry(config: Config, core: &Core, directory: &Directory, who: u8) -> bool
+    requires config { directory.now.config ≡ config }
+    requires sound { IsSound config core.now }
+    ensures { result ≡ named_entry config (contents_of directory.now) core.now.held who }
+{
+    match who {
+        0 => has_own(config, core, directory),
+        1 => has_owner(config, core, directory),
+        _ => has_victim(config, core, directory),
+    }
+}
+
+fn block_stop(core: &Core) -> Option<Stop>
+    ensures { result ≡ block_stop core.now }
+{
+    let block = halts_unless(core.got.is_some(), Halt::Block, None);
+    halts_unless(core.held.is_some(), Halt::Request, block)
+}
+
+fn request_stop(core: &Core) -> Option<Stop>
+    ensures { result ≡ request_stop core.now }
+{
+    halts_unless(core.held.is_some(), Halt::Request, None)
 }
 
 fn push_stop(core: &Core, form: Form) -> Option<Stop>
     ensures { result ≡ push_stop core.now form }
 {
-    let held = core.held.is_some();
     match form {
-        Form::Ucblk => {
-            let block = halts_unless(core.got.is_some(), Halt::Block, None);
-            halts_unless(held, Halt::Request, block)
-        }
-        Form::Ucdone | Form::Memrd | Form::Memww => halts_unless(held, Halt::Request, None),
-        _ => Some(Stop::Halts(Halt::NotBuilt)),
+        Form::Blk { .. } => block_stop(core),
+        Form::Ucblk => block_stop(core),
+        Form::Wake => request_stop(core),
+        Form::Ucdone => request_stop(core),
+        Form::Done => request_stop(core),
+        Form::Memrd => request_stop(core),
+        Form::Memww => request_stop(core),
+        Form::Memwb => halts_unless(core.dirty.is_some(), Halt::Block, None),
+        _ => None,
     }
 }
 
-fn form_stop(core: &Core, form: Form, choice: Choice, message: Option<&Row>) -> Option<Stop>
-    ensures { result ≡ form_stop core.now form choice (option_copied message.entry) }
+fn directory_stop(config: Config, core: &Core, directory: &Directory, form: Form) -> Option<Stop>
+    requires config { directory.now.config ≡ config }
+    requires sound { IsSound config core.now }
+    ensures { result ≡ directory_stop config (record { core = core.now; directory = contents_of directory.now }) form }
 {
     match form {
-        Form::Nop => None,
-        Form::Bi { .. } => None,
+        Form::Rdw => request_stop(core),
+        Form::Gad => halts_unless(0 < core.summ, Halt::Summary, None),
+        Form::Wde { .. } => request_stop(core),
+        Form::Wds { a, .. } => entry_stop(core, named_entry(config, core, directory, a)),
+        Form::Fin => request_stop(core),
+        Form::Inv { .. } => halts_unless(1 < core.summ, Halt::Summary, None),
+        Form::Stwb { a, .. } => entry_stop(core, named_entry(config, core, directory, a)),
+        Form::Tr { .. } => entry_stop(core, has_owner(config, core, directory)),
+        _ => push_stop(core, form),
+    }
+}
+
+fn form_stop(
+    config: Config,
+    core: &Core,
+    directory: &Directory,
+    form: Form,
+    choice: Choice,
+    message: Option<&Message>,
+) -> Option<Stop>
+    requires config { directory.now.config ≡ config }
+    requires sound { IsSound config core.now }
+    ensures { result ≡ form_stop config (record { core = core.now; directory = contents_of directory.now }) form choice (option_copied message.entry) }
+{
+    match form {
+        Form::Mova { .. } => request_stop(core),
+        Form::Movs { .. } => request_stop(core),
+        Form::Movw { .. } => request_stop(core),
         Form::Bk { a, .. } => branch_stop(core, a),
-        Form::Fin => halts_unless(core.held.is_some(), Halt::Request, None),
         Form::Wfq { a } => wait_stop(&core.head, a, choice, message),
         Form::Popq { .. } => pop_stop(core),
         Form::Defer => halts_unless(head_value(&core.head) == REQUEST, Halt::Head, None),
-        _ => push_stop(core, form),
+        _ => directory_stop(config, core, directory, form),
     }
 }
 
 /// Why the instruction at the engine's place doesn't run, or none where it does. `message` is the head of
 /// the channel that the choice names, if it has one; it is looked at by `wfq` alone.
 /// Of several reasons to halt the least is answered, in the order of `Halt`.
-pub fn stop_of(
+pub(crate) fn stop_of(
+    config: Config,
     core: &Core,
+    directory: &Directory,
     program: &[Instr],
     choice: Choice,
-    message: Option<&Row>,
+    message: Option<&Message>,
 ) -> Option<Stop>
-    ensures { result ≡ stop_of core.now program.now choice (option_copied message.entry) }
+    requires config { directory.now.config ≡ config }
+    requires sound { IsSound config core.now }
+    ensures { result ≡ stop_of config (record { core = core.now; directory = contents_of directory.now }) program.now choice (option_copied message.entry) }
 {
     match program.get(core.place as usize) {
         None => Some(Stop::Halts(Halt::NoInstruction)),
-        Some(instr) => form_stop(core, instr.form(), choice, message),
-    }
-}
-
-fn sends(held: &Option<Held>, got: &Option<[u64; 8]>, form: Form) -> Effect
-    ensures { result ≡ sends held.now got.now form }
-{
-    let Some(held) = held else {
-        return Effect::Inside;
-    };
-    let (from, to, addr) = (ENGINE, held.source, held.addr);
-    match form {
-        Form::Ucblk => match got {
-            None => Effect::Inside,
-            Some(words) => Effect::Sends(Row::UcBlk {
-                from,
-                to,
-                addr,
-                word: words[word_of(addr) as usize],
-            }),
-        },
-        Form::Ucdone => Effect::Sends(Row::UcDone { from, to, addr }),
-        Form::Memrd => Effect::Sends(Row::Read {
-            from,
-            to: MEMORY,
-            addr: addr.block_start(),
-        }),
-        Form::Memww => Effect::Sends(Row::WriteWord {
-            from,
-            to: MEMORY,
-            addr,
-            word: held.value,
-        }),
-        _ => Effect::Inside,
-    }
-}
-
-fn pops(head: &Option<Head>) -> Effect
-    ensures { result ≡ pops head.now }
-{
-    match head {
-        None => Effect::Inside,
-        Some(head) => Effect::Pops(head.choice),
-    }
-}
-
-fn form_effect(core: &Core, form: Form) -> Effect
-    ensures { result ≡ form_effect core.now form }
-{
-    match form {
-        Form::Popq { .. } => pops(&core.head),
-        _ => sends(&core.held, &core.got, form),
-    }
-}
-
-/// What the instruction at the engine's place does outside the engine, where it runs.
-pub fn effect_of(core: &Core, program: &[Instr]) -> Effect
-    ensures value { result ≡ effect_of core.now program.now }
-    ensures sources { (n : ℕ) → ComesFromBelow n core.now → ConcernsBelow n result }
-{
-    match program.get(core.place as usize) {
-        None => Effect::Inside,
-        Some(instr) => form_effect(core, instr.form()),
+        Some(instr) => form_stop(config, core, directory, instr.form(), choice, message),
     }
 }

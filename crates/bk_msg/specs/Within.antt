@@ -1,5 +1,6 @@
 -- The caches and ways that a message names are in the configuration.
 use Rattle.std.specs.Prelude.{ℕ, ◌<◌}
+use Rattle.std.specs.Coded.{×_prop, Unit-prop, le_prop}
 use Rattle.bk_base.specs.Places.{Shape}
 use Rattle.bk_msg.specs.declared.row.Row.{Row}
 use Rattle.bk_msg.specs.declared.row.Row.TheVariants.{Rd, Wr, UcRd, UcWr, Evict, Inv, StWb, StTr, Blk, StWake, UcBlk, UcDone, Done, Fill, InvAck, CohAck, Wb, NullWb, Read, Write, WriteWord, Block}
@@ -33,3 +34,31 @@ IsWithin k (Read _ _ _) = Unit {0}
 IsWithin k (Write _ _ _ _) = Unit {0}
 IsWithin k (WriteWord _ _ _ _) = Unit {0}
 IsWithin k (Block _ _ _ _) = Unit {0}
+
+-- that they are is a fact with one proof, as a ghost field wants it
+IsWay-prop : (k : Shape) (c w : ℕ) → IsProp (IsWay k c w)
+IsWay-prop k c w = hlevel le_prop
+
+pub IsWithin-prop : (k : Shape) (m : Row) → IsProp (IsWithin k m)
+IsWithin-prop k (Rd from _ way _) = IsWay-prop k from way
+IsWithin-prop k (Wr from _ way _) = IsWay-prop k from way
+IsWithin-prop k (UcRd from _ _) = le_prop
+IsWithin-prop k (UcWr from _ _ _) = le_prop
+IsWithin-prop k (Evict from _ way _) = IsWay-prop k from way
+IsWithin-prop k (Inv _ to _) = le_prop
+IsWithin-prop k (StWb _ to _ _) = le_prop
+IsWithin-prop k (StTr _ to _ peer peer_way _ _) = ×_prop le_prop (IsWay-prop k peer peer_way)
+IsWithin-prop k (Blk _ to way _ _ _) = IsWay-prop k to way
+IsWithin-prop k (StWake _ to way _ _) = IsWay-prop k to way
+IsWithin-prop k (UcBlk _ to _ _) = le_prop
+IsWithin-prop k (UcDone _ to _) = le_prop
+IsWithin-prop k (Done _ to _) = le_prop
+IsWithin-prop k (Fill from to way _ _ _) = ×_prop le_prop (IsWay-prop k to way)
+IsWithin-prop k (InvAck from _ _) = le_prop
+IsWithin-prop k (CohAck from _ _) = le_prop
+IsWithin-prop k (Wb from _ _ _) = le_prop
+IsWithin-prop k (NullWb from _ _) = le_prop
+IsWithin-prop k (Read _ _ _) = Unit-prop
+IsWithin-prop k (Write _ _ _ _) = Unit-prop
+IsWithin-prop k (WriteWord _ _ _ _) = Unit-prop
+IsWithin-prop k (Block _ _ _ _) = Unit-prop

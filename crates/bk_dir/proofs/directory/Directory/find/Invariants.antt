@@ -1,0 +1,8 @@
+use Rattle.std.proofs.Common.{◌≡◌, None}
+use Rattle.bk_base.specs.Counting.{least_below}
+use Rattle.bk_dir.specs.Directories.{contents_of}
+use Rattle.bk_dir.proofs.EntryTests.{holds_at}
+use Rattle.bk_dir.proofs.directory.Directory.find.Given as goal
+
+abbrev pub invariant-loop-way : goal.invariant-loop-way
+invariant-loop-way l = least_below l.way (holds_at (contents_of l.self) l.cache l.set l.tag) ≡ None

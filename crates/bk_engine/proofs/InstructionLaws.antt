@@ -1,0 +1,251 @@
+-- The laws of the instructions.
+use Rattle.std.proofs.Common.{◌≡◌, ◌≢◌, ℕ, zero, suc, ◌+◌, ◌<◌, [], ◌∷◌, Bool, true, false, ◌&&◌, cond, Option, Some, None, refl, subst, sym, ap, ◌∙◌, inl, inr, arith, zero-add}
+use Rattle.std.specs.Prelude.{All, ◌==◌, nat_lt, not, if◌then◌else◌, slice_get}
+use Rattle.std.proofs.lemmas.Bool.{cond_both, cond-true, cond-false, lt-ltb, le-ltb, eq-eqb, ne_eqb, and_left, and_right, or_from, or_left, or_right, and_from, cases_lt, not_from_true}
+use Rattle.std.proofs.lemmas.Bool.Decides.{nat_tests}
+use Rattle.std.proofs.lemmas.List.Elements.{All-append, All-cons, All-nil}
+use Rattle.std.proofs.lemmas.List.Sums.{sum_by-append}
+use Rattle.bk_base.specs.Places.{Shape, block_start, group_of, tag_at}
+use Rattle.bk_base.specs.Counting.{join_below}
+use Rattle.bk_base.specs.States.{is_readable}
+use Rattle.bk_base.specs.Tables.{put}
+use Rattle.bk_base.specs.declared.coh.Coh.{Coh}
+use Rattle.bk_base.specs.declared.coh.Coh.TheVariants.{I}
+use Rattle.bk_isa.specs.declared.form.Form.{Form}
+use Rattle.bk_isa.specs.declared.form.Form.TheVariants.{Popq, Wde, Wds, Inv, Stwb, Wfq}
+use Rattle.bk_msg.specs.declared.row.Row.{Row}
+use Rattle.bk_msg.specs.declared.row.Row.TheVariants as rows
+use Rattle.bk_msg.specs.declared.row.TheConstants.{ENGINE}
+use Rattle.bk_msg.specs.Networks.{address_of, receiver_of}
+use Rattle.bk_dir.specs.declared.entry.Entry.{Entry}
+use Rattle.bk_dir.specs.declared.entry.Summary.{Summary}
+use Rattle.bk_dir.specs.Contents.{Contents, with_state, with_pending}
+use Rattle.bk_dir.specs.Laws.{Holds}
+use Rattle.bk_dir.specs.Summaries.{holds, has_bit, shares}
+use Rattle.bk_dir.proofs.SummaryLaws.{bits-law}
+use Rattle.bk_engine.specs.declared.parts.Choice.{Choice}
+use Rattle.bk_engine.specs.declared.parts.Head.{Head}
+use Rattle.bk_engine.specs.declared.parts.Held.{Held}
+use Rattle.bk_engine.specs.declared.stop.Halt.{Halt}
+use Rattle.bk_engine.specs.declared.stop.Stop.{Stop}
+use Rattle.bk_engine.specs.declared.stop.Stop.TheVariants.{Halts, Waits}
+use Rattle.bk_engine.specs.Core.{EngineState}
+use Rattle.bk_engine.specs.Heads.{head_number, names_class}
+use Rattle.bk_engine.specs.Reads.{asked_of, summary_for}
+use Rattle.bk_engine.specs.Changes.{wiped, wiped_at, invalidates, state_written, named_written, directory_held, message_marked, head_marked, directory_after}
+use Rattle.bk_engine.specs.Sends.{is_owner, is_invalidated, inv_to, invs, sends_held, sends}
+use Rattle.bk_engine.specs.Stops.{wait_stop, form_stop, stop_at}
+use Rattle.bk_engine.specs.Laws.{is_marking, OnlyPopMarks, IsMarked, RequestMarks, CohAckMarks, writes_entries, OnlyFourWrite, count_to, InvSends, IsInvalidated, InvReaches, InvReachesOwner, HaltsForGood}
+use Rattle.bk_engine.proofs.Outward.{owner-within}
+use Rattle.bk_engine.proofs.Wiping.{put-at, put-other}
+
+-- PENDING BITS
+
+written-pending : (d : Contents) (s : ℕ) (at : Option (ℕ × ℕ)) (state : Coh) → (state_written d s at state).pending ≡ d.pending
+written-pending d s None state = refl
+written-pending d s (Some at) state = refl
+
+named-pending : (k : Shape) (d : Contents) (held : Held) (who : ℕ) (state : Coh) → (named_written k d held who state).pending ≡ d.pending
+named-pending k d held who state =
+    let own = with_state d held.source (group_of k held.addr) (summary_for k d held).own_way state in
+    let owners = state_written d (group_of k held.addr) (summary_for k d held).owner state in
+    let victim = with_state d held.source (group_of k held.addr) held.way state in
+    cond_both (who == 0) own (if who == 1 then owners else victim) (λ (x : Contents). x.pending ≡ d.pending) (λ e. refl)
+    (λ e. cond_both (who == 1) owners victim (λ (x : Contents). x.pending ≡ d.pending)
+    (λ i. written-pending d (group_of k held.addr) (summary_for k d held).owner state) (λ i. refl))
+
+held-pending : (k : Shape) (d : Contents) (o : Option Held) (f : Form) → (directory_held k d o f).pending ≡ d.pending
+held-pending k d None f = refl
+held-pending k d (Some held) (Wds who state) = named-pending k d held who state
+held-pending k d (Some held) (Stwb who state) = named-pending k d held who state
+held-pending k d (Some held) f = refl
+
+marks-not : (k : Shape) (n : EngineState) (f : Form) → is_marking f ≡ false → (directory_after k n f).pending ≡ n.directory.pending
+marks-not k n (Popq wp) e = ap (λ (x : Contents). x.pending) (cond-false (wp == 1) (head_marked k n.directory n.core.head) n.directory e)
+marks-not k n f e = held-pending k n.directory n.core.held f
+
+pub only_pop_marks : OnlyPopMarks
+only_pop_marks k n f e = marks-not k n f e
+
+-- a head that is popped with `wp` marks its group
+marked : (k : Shape) (n : EngineState) (head : Head) (bit : Bool) → n.core.head ≡ Some head
+    → message_marked k n.directory (head_number head.message) head.message ≡ with_pending n.directory (group_of k (address_of head.message)) bit → IsMarked k n head bit
+marked k n head bit e m =
+    let g : ℕ = group_of k (address_of head.message) in
+    let after : head_marked k n.directory n.core.head ≡ with_pending n.directory g bit = ap (λ (o : Option Head). head_marked k n.directory o) e ∙ m in
+    record {
+      own = ap (λ (x : Contents). x.pending g) after ∙ put-at n.directory.pending g bit;
+      others = λ h ne. ap (λ (x : Contents). x.pending h) after ∙ put-other n.directory.pending g bit h ne;
+    }
+
+pub request_marks : RequestMarks
+request_marks k n head e i =
+    marked k n head true e (ap (λ (kind : ℕ). message_marked k n.directory kind head.message) i)
+
+pub coh_ack_marks : CohAckMarks
+coh_ack_marks k n head e i =
+    marked k n head false e (ap (λ (kind : ℕ). message_marked k n.directory kind head.message) i)
+
+-- ENTRIES
+
+message-entries : (k : Shape) (d : Contents) (kind : ℕ) (m : Row) → (message_marked k d kind m).entries ≡ d.entries
+message-entries k d kind m =
+    let g : ℕ = group_of k (address_of m) in
+    cond_both (kind == 1) (with_pending d g true) (if nat_lt 1 kind && nat_lt kind 6 then with_pending d g false else d) (λ (x : Contents). x.entries ≡ d.entries) (λ e. refl)
+    (λ e. cond_both (nat_lt 1 kind && nat_lt kind 6) (with_pending d g false) d (λ (x : Contents). x.entries ≡ d.entries) (λ i. refl) (λ i. refl))
+
+head-entries : (k : Shape) (d : Contents) (o : Option Head) → (head_marked k d o).entries ≡ d.entries
+head-entries k d None = refl
+head-entries k d (Some head) = message-entries k d (head_number head.message) head.message
+
+held-entries : (k : Shape) (d : Contents) (o : Option Held) (f : Form) → writes_entries f ≡ false → (directory_held k d o f).entries ≡ d.entries
+held-entries k d None f e = refl
+held-entries k d (Some held) (Wde state) e = absurd (cc)
+held-entries k d (Some held) (Wds who state) e = absurd (cc)
+held-entries k d (Some held) (Inv a) e = absurd (cc)
+held-entries k d (Some held) (Stwb who state) e = absurd (cc)
+held-entries k d (Some held) f e = refl
+
+writes-not : (k : Shape) (n : EngineState) (f : Form) → writes_entries f ≡ false → (directory_after k n f).entries ≡ n.directory.entries
+writes-not k n (Popq wp) e =
+    cond_both (wp == 1) (head_marked k n.directory n.core.head) n.directory (λ (x : Contents). x.entries ≡ n.directory.entries)
+    (λ i. head-entries k n.directory n.core.head) (λ i. refl)
+writes-not k n f e = held-entries k n.directory n.core.held f e
+
+pub only_four_write : OnlyFourWrite
+only_four_write k n f e = writes-not k n f e
+
+-- HALTS
+
+wait-again : (o : Option Head) (classes : ℕ) (reason : Halt) (first next : Choice) (offered later : Option Row)
+    → wait_stop o classes first offered ≡ Some (Halts reason) → wait_stop o classes next later ≡ Some (Halts reason)
+wait-again (Some head) classes reason first next offered later e = e
+wait-again None classes reason first next None later e = absurd (cc)
+wait-again None classes reason first next (Some m) later e =
+    absurd (cond_both (names_class classes first.class) None (Some (Waits classes)) (λ (x : Option Stop). x ≡ Some (Halts reason) → ⊥)
+    (λ i. λ j. cc) (λ i. λ j. cc) e)
+
+form-again : (k : Shape) (n : EngineState) (f : Form) (reason : Halt) (first next : Choice) (offered later : Option Row)
+    → form_stop k n f first offered ≡ Some (Halts reason) → form_stop k n f next later ≡ Some (Halts reason)
+form-again k n (Wfq classes) reason first next offered later e = wait-again n.core.head classes reason first next offered later e
+form-again k n f reason first next offered later e = e
+
+at-again : (k : Shape) (n : EngineState) (o : Option Form) (reason : Halt) (first next : Choice) (offered later : Option Row)
+    → stop_at k n o first offered ≡ Some (Halts reason) → stop_at k n o next later ≡ Some (Halts reason)
+at-again k n None reason first next offered later e = e
+at-again k n (Some f) reason first next offered later e = form-again k n f reason first next offered later e
+
+pub halts_for_good : HaltsForGood
+halts_for_good k n program reason first next offered later e = at-again k n (slice_get program n.core.place) reason first next offered later e
+
+-- INVALIDATIONS
+
+each-of : (held : Held) (w : Bool) (s : Summary) (n : ℕ) → All (λ m. m ≡ rows.Inv ENGINE (receiver_of m) (block_start held.addr)) (join_below n (inv_to held w s))
+each-of held w s zero = All-nil (λ m. m ≡ rows.Inv ENGINE (receiver_of m) (block_start held.addr))
+each-of held w s (suc n) =
+    let P : Row → Type 0 = λ m. m ≡ rows.Inv ENGINE (receiver_of m) (block_start held.addr) in
+    All-append P (join_below n (inv_to held w s)) (inv_to held w s n) (each-of held w s n)
+    (cond_both (is_invalidated w s n) (rows.Inv ENGINE n (block_start held.addr) ∷ []) [] (λ xs. All P xs)
+    (λ e. All-cons P (rows.Inv ENGINE n (block_start held.addr)) [] refl (All-nil P)) (λ e. All-nil P))
+
+-- how many of them go to a cache
+
+one-count : (held : Held) (w : Bool) (s : Summary) (c n : ℕ) → count_to c (inv_to held w s n) ≡ cond (is_invalidated w s n && n == c) 1 0
+one-count held w s c n =
+    let b : Bool = is_invalidated w s n in
+    cond_both b (rows.Inv ENGINE n (block_start held.addr) ∷ []) [] (λ xs. count_to c xs ≡ cond (b && n == c) 1 0)
+    (λ e. zero-add (cond (n == c) 1 0) ∙ sym (ap (λ (x : Bool). cond (x && n == c) 1 0) e))
+    (λ e. sym (ap (λ (x : Bool). cond (x && n == c) 1 0) e))
+
+one-more : (c n x y : ℕ) (here there : Bool) → (c ≡ n → here ≡ there) → x ≡ cond (nat_lt c n && here) 1 0 → y ≡ cond (there && n == c) 1 0
+    → x + y ≡ cond (nat_lt c (suc n) && here) 1 0
+one-more c n x y true true same e i = grind (arith, nat_tests)
+one-more c n x y true false same e i = grind (arith, nat_tests)
+one-more c n x y false true same e i = grind (arith, nat_tests)
+one-more c n x y false false same e i = grind (arith, nat_tests)
+
+-- a cache below n is sent one where it is chosen, and any other none
+counts-below : (held : Held) (w : Bool) (s : Summary) (c n : ℕ) → count_to c (join_below n (inv_to held w s)) ≡ cond (nat_lt c n && is_invalidated w s c) 1 0
+counts-below held w s c zero = sym (cond-false (nat_lt c 0 && is_invalidated w s c) 1 0 (and_left (nat_lt c 0) (is_invalidated w s c) (le-ltb c 0 (omega arith))))
+counts-below held w s c (suc n) =
+    sum_by-append (λ m. cond (receiver_of m == c) 1 0) (join_below n (inv_to held w s)) (inv_to held w s n)
+    ∙ one-more c n (count_to c (join_below n (inv_to held w s))) (count_to c (inv_to held w s n)) (is_invalidated w s c) (is_invalidated w s n)
+    (λ e. ap (λ i. is_invalidated w s i) e) (counts-below held w s c n) (one-count held w s c n)
+
+-- what `inv` sends, for a held request
+inv-list : (k : Shape) (n : EngineState) (held : Held) (a : ℕ) → n.core.held ≡ Some held → sends k n (Inv a) ≡ invs k held (a == 1) (summary_for k n.directory held)
+inv-list k n held a e = ap (λ (o : Option Held). sends_held k n o (Inv a)) e
+
+not-asker : (o : Option (ℕ × ℕ)) (c : ℕ) → ((at : ℕ × ℕ) → o ≡ Some at → at.0 ≢ c) → is_owner o c ≡ false
+not-asker None c h = refl
+not-asker (Some at) c h = ne_eqb c at.0 (λ e. h at refl (sym e))
+
+-- the cache that asks is none of the others, nor the owner
+asker-not : (k : Shape) (d : Contents) (held : Held) (w : Bool) → held.source < k.caches → is_invalidated w (summary_for k d held) held.source ≡ false
+asker-not k d held w l =
+    let s = summary_for k d held in
+    let bit : has_bit s.others held.source ≡ false =
+    bits-law k d (asked_of k held) held.source l
+    ∙ and_left (not (held.source == held.source)) (shares k d held.source (group_of k held.addr) (tag_at k held.addr))
+    (not_from_true (held.source == held.source) (eq-eqb held.source held.source refl)) in
+    or_from (has_bit s.others held.source) (w && is_owner s.owner held.source) bit
+    (and_right w (is_owner s.owner held.source) (not-asker s.owner held.source (λ at e. (owner-within k d (asked_of k held) at e).is_other)))
+
+asker-uncounted : (k : Shape) (d : Contents) (held : Held) (w : Bool) → (nat_lt held.source k.caches && is_invalidated w (summary_for k d held) held.source) ≡ false
+asker-uncounted k d held w = elim (cases_lt held.source k.caches) [
+  | inl l ↦ and_right (nat_lt held.source k.caches) (is_invalidated w (summary_for k d held) held.source) (asker-not k d held w l)
+  | inr g ↦ and_left (nat_lt held.source k.caches) (is_invalidated w (summary_for k d held) held.source) (le-ltb held.source k.caches g)
+]
+
+pub inv_sends : InvSends
+inv_sends k n held a e =
+    let s = summary_for k n.directory held in
+    let list : sends k n (Inv a) ≡ invs k held (a == 1) s = inv-list k n held a e in
+    record {
+      each = subst (λ xs. All (λ m. m ≡ rows.Inv ENGINE (receiver_of m) (block_start held.addr)) xs) (sym list) (each-of held (a == 1) s k.caches);
+      asker = ap (λ xs. count_to held.source xs) list ∙ counts-below held (a == 1) s held.source k.caches
+          ∙ cond-false (nat_lt held.source k.caches && is_invalidated (a == 1) s held.source) 1 0 (asker-uncounted k n.directory held (a == 1));
+    }
+
+-- a wiped entry doesn't hold the block
+wiped-gone : (tag : ℕ) (entry : Entry) → Holds (wiped tag entry) tag → ⊥
+wiped-gone tag entry =
+    cond_both (holds entry tag) (record entry { state = I }) entry (λ (x : Entry). Holds x tag → ⊥)
+    (λ e. λ h. let wrong : false ≡ true = h.is_valid in cc)
+    (λ e. λ h. let right : holds entry tag ≡ true = and_from (is_readable entry.state) (entry.tag == tag) h.is_valid (eq-eqb entry.tag tag h.is_tag) in cc)
+
+-- nor does any way of a cache that is sent an invalidation
+wiped-entries : (k : Shape) (d : Contents) (held : Held) (w : Bool) (s : Summary) (c v : ℕ) → is_invalidated w s c ≡ true → v < k.ways
+    → (invalidates k d held w s).entries c (group_of k held.addr) v ≡ wiped (tag_at k held.addr) (d.entries c (group_of k held.addr) v)
+wiped-entries k d held w s c v on l =
+    let g : ℕ = group_of k held.addr in
+    let row : ℕ → Entry = wiped_at k (tag_at k held.addr) (d.entries c g) in
+    ap (λ (f : ℕ → ℕ → Entry). f g v) (cond-true (is_invalidated w s c) (put (d.entries c) g row) (d.entries c) on)
+    ∙ ap (λ (f : ℕ → Entry). f v) (put-at (d.entries c) g row)
+    ∙ cond-true (nat_lt v k.ways) (wiped (tag_at k held.addr) (d.entries c g v)) (d.entries c g v) (lt-ltb v k.ways l)
+
+-- a cache that is sent one
+reached : (k : Shape) (n : EngineState) (held : Held) (a c : ℕ) → n.core.held ≡ Some held → c < k.caches
+    → is_invalidated (a == 1) (summary_for k n.directory held) c ≡ true → IsInvalidated k n held a c
+reached k n held a c e l on =
+    let s = summary_for k n.directory held in
+    let after : directory_after k n (Inv a) ≡ invalidates k n.directory held (a == 1) s = ap (λ (o : Option Held). directory_held k n.directory o (Inv a)) e in
+    record {
+      once = ap (λ xs. count_to c xs) (inv-list k n held a e) ∙ counts-below held (a == 1) s c k.caches
+          ∙ cond-true (nat_lt c k.caches && is_invalidated (a == 1) s c) 1 0 (and_from (nat_lt c k.caches) (is_invalidated (a == 1) s c) (lt-ltb c k.caches l) on);
+      gone = λ v i h. wiped-gone (tag_at k held.addr) (n.directory.entries c (group_of k held.addr) v)
+          (subst (λ (x : Entry). Holds x (tag_at k held.addr))
+          (ap (λ (x : Contents). x.entries c (group_of k held.addr) v) after ∙ wiped-entries k n.directory held (a == 1) s c v on i) h);
+    }
+
+pub inv_reaches : InvReaches
+inv_reaches k n held a c e l other =
+    let s = summary_for k n.directory held in
+    reached k n held a c e l
+    (or_left (has_bit s.others c) ((a == 1) && is_owner s.owner c) (bits-law k n.directory (asked_of k held) c l ∙ other))
+
+pub inv_reaches_owner : InvReachesOwner
+inv_reaches_owner k n held at e o =
+    let s = summary_for k n.directory held in
+    reached k n held 1 at.0 e (owner-within k n.directory (asked_of k held) at o).cache_within
+    (or_right (has_bit s.others at.0) (is_owner s.owner at.0) (ap (λ (x : Option (ℕ × ℕ)). is_owner x at.0) o ∙ eq-eqb at.0 at.0 refl))

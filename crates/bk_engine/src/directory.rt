@@ -1,0 +1,188 @@
+ghost use Rattle.std.specs.Prelude.{◌≡◌, ◌<◌, ◌≤◌, ◌^◌, IfSome};
+ghost use Rattle.bk_base.specs.Places.{group_of, tag_at, tag_limit};
+ghost use Rattle.bk_msg.specs.Within.{IsWay};
+ghost use Rattle.bk_dir.specs.Contents.{with_entry};
+ghost use Rattle.bk_dir.specs.Directories.{contents_of};
+ghost use Rattle.bk_engine.specs.Heads.{head_number};
+ghost use Rattle.bk_engine.specs.Kept.{IsSound};
+ghost use Rattle.bk_engine.specs.Changes.{wiped, invalidates, state_written, named_written, directory_for, directory_held, message_marked, head_marked, directory_after};
+ghost use Rattle.bk_engine.specs.Wiping.{ways_wiped};
+
+use crate::heads::{INV_ACK, NULL_WB, REQUEST, head_number};
+use crate::parts::{Core, Head, Held};
+use crate::reads::summary_for;
+use crate::sends::is_invalidated;
+use bk_base::{Coh, Config, group_of, tag_at};
+use bk_dir::{Directory, Entry, Summary};
+use bk_isa::Form;
+use bk_msg::Row;
+
+/// An entry in state `I`, where it holds the block with a tag.
+fn wiped(tag: u64, entry: Entry) -> Entry
+    ensures value { result ≡ wiped tag entry }
+    ensures tag { result.tag ≡ entry.tag }
+{
+    if entry.state.readable() && entry.tag == tag {
+        Entry {
+            state: Coh::I,
+            ..entry
+        }
+    } else {
+        entry
+    }
+}
+
+/// Puts each entry of a block of a cache into state `I`.
+fn wipe_ways(config: Config, directory: &mut Directory, cache: u8, set: u8, tag: u64)
+    requires config { directory.old.config ≡ config }
+    requires cache { cache < config.caches }
+    requires set { set < config.sets }
+    ensures state { contents_of directory.new ≡ ways_wiped config (contents_of directory.old) cache set tag }
+    ensures config { directory.new.config ≡ config }
+{
+    for way in 0..config.ways {
+        let entry = directory.entry(cache, set, way);
+        directory.write_entry(cache, set, way, wiped(tag, entry));
+    }
+}
+
+/// Puts each entry of the request's block into state `I`, of each cache that is sent an invalidation.
+fn invalidate(
+    config: Config,
+    directory: &mut Directory,
+    held: &Held,
+    with_owner: bool,
+    summary: &Summary,
+)
+    requires config { directory.old.config ≡ config }
+    requires few { config.caches ≤ 8 }
+    requires others { summary.now.others < 2 ^ config.caches }
+    requires owner { IfSome summary.now.owner (λ at. at.0 < config.caches) }
+    ensures state { contents_of directory.new ≡ invalidates config (contents_of directory.old) held.now with_owner summary.now }
+    ensures config { directory.new.config ≡ config }
+{
+    let group = group_of(config, held.addr);
+    let tag = tag_at(config, held.addr);
+    for cache in 0..config.caches {
+        if is_invalidated(with_owner, summary, cache) {
+            wipe_ways(config, directory, cache, group, tag);
+        }
+    }
+}
+
+fn write_state(directory: &mut Directory, set: u8, at: Option<(u8, u8)>, state: Coh)
+    requires set { set < directory.old.config.sets }
+    requires at { IfSome at (λ a. (a.0 < directory.old.config.caches) × (a.1 < directory.old.config.ways)) }
+    ensures state { contents_of directory.new ≡ state_written (contents_of directory.old) set at state }
+    ensures config { directory.new.config ≡ directory.old.config }
+{
+    match at {
+        None => (),
+        Some((cache, way)) => directory.write_state(cache, set, way, state),
+    }
+}
+
+/// Writes the state of an entry: the requester's own (0), the owner's (1), the victim's (2).
+fn write_named(config: Config, directory: &mut Directory, held: &Held, who: u8, state: Coh)
+    requires config { directory.old.config ≡ config }
+    requires way { IsWay config held.now.source held.now.way }
+    ensures state { contents_of directory.new ≡ named_written config (contents_of directory.old) held.now who state }
+    ensures config { directory.new.config ≡ config }
+{
+    let group = group_of(config, held.addr);
+    match who {
+        0 => {
+            let way = summary_for(config, directory, held).own_way;
+            directory.write_state(held.source, group, way, state);
+        }
+        1 => {
+            let owner = summary_for(config, directory, held).owner;
+            write_state(directory, group, owner, state);
+        }
+        _ => directory.write_state(held.source, group, held.way, state),
+    }
+}
+
+fn write_own(config: Config, directory: &mut Directory, held: &Held, state: Coh)
+    requires config { directory.old.config ≡ config }
+    requires way { IsWay config held.now.source held.now.way }
+    ensures state { contents_of directory.new ≡ with_entry (contents_of directory.old) held.now.source (group_of config held.now.addr) held.now.way (record { tag = tag_at config held.now.addr; state = state }) }
+    ensures config { directory.new.config ≡ config }
+{
+    let group = group_of(config, held.addr);
+    let tag = tag_at(config, held.addr);
+    directory.write_entry(held.source, group, held.way, Entry { tag, state });
+}
+
+fn change_for(config: Config, directory: &mut Directory, held: &Held, form: Form)
+    requires config { directory.old.config ≡ config }
+    requires few { config.caches ≤ 8 }
+    requires way { IsWay config held.now.source held.now.way }
+    ensures state { contents_of directory.new ≡ directory_for config (contents_of directory.old) held.now form }
+    ensures config { directory.new.config ≡ config }
+{
+    match form {
+        Form::Wde { a } => write_own(config, directory, held, a),
+        Form::Wds { a, b } => write_named(config, directory, held, a, b),
+        Form::Inv { a } => {
+            let summary = summary_for(config, directory, held);
+            invalidate(config, directory, held, a == 1, &summary);
+        }
+        Form::Stwb { a, b } => write_named(config, directory, held, a, b),
+        _ => (),
+    }
+}
+
+fn change_held(config: Config, core: &Core, directory: &mut Directory, form: Form)
+    requires config { directory.old.config ≡ config }
+    requires sound { IsSound config core.now }
+    ensures state { contents_of directory.new ≡ directory_held config (contents_of directory.old) core.now.held form }
+    ensures config { directory.new.config ≡ config }
+{
+    match &core.held {
+        None => (),
+        Some(held) => change_for(config, directory, held, form),
+    }
+}
+
+/// Marks the group of a message that is popped: as pending by a request, as pending no more by an answer of a cache.
+fn mark_message(config: Config, directory: &mut Directory, message: &Row)
+    requires { directory.old.config ≡ config }
+    ensures state { contents_of directory.new ≡ message_marked config (contents_of directory.old) (head_number message.now) message.now }
+    ensures config { directory.new.config ≡ config }
+{
+    let group = group_of(config, message.address());
+    match head_number(message) {
+        REQUEST => directory.set_pending(group),
+        INV_ACK..=NULL_WB => directory.clear_pending(group),
+        _ => (),
+    }
+}
+
+fn mark_head(config: Config, directory: &mut Directory, head: &Option<Head>)
+    requires { directory.old.config ≡ config }
+    ensures state { contents_of directory.new ≡ head_marked config (contents_of directory.old) head.now }
+    ensures config { directory.new.config ≡ config }
+{
+    match head {
+        None => (),
+        Some(head) => mark_message(config, directory, &head.message.row()),
+    }
+}
+
+/// What an instruction that runs changes in the directory. `core` is the engine before it.
+pub(crate) fn change_directory(config: Config, core: &Core, directory: &mut Directory, form: Form)
+    requires config { directory.old.config ≡ config }
+    requires sound { IsSound config core.now }
+    ensures state { contents_of directory.new ≡ directory_after config (record { core = core.now; directory = contents_of directory.old }) form }
+    ensures config { directory.new.config ≡ config }
+{
+    match form {
+        Form::Popq { a } => {
+            if a == 1 {
+                mark_head(config, directory, &core.head);
+            }
+        }
+        _ => change_held(config, core, directory, form),
+    }
+}

@@ -1,0 +1,139 @@
+ghost use Rattle.std.specs.Prelude.{◌≡◌, ◌<◌};
+ghost use Rattle.bk_engine.specs.Kept.{IsSound, IsSound-prop};
+
+use crate::parts::{Choice, Core};
+use crate::step::run;
+use crate::stop::{Halt, Stop, stop_of};
+use arrayvec::ArrayVec;
+use bk_base::Config;
+use bk_dir::Directory;
+use bk_isa::Instr;
+use bk_msg::Message;
+use std::alloc::{AllocError, Global};
+
+/// What a step of the engine did.
+#[derive(Debug, Drop)]
+pub enum EngineStep {
+    /// The instruction ran: the messages that it sent, in order, and the head that it took off its channel.
+    Ran {
+        sent: ArrayVec<Message, 16>,
+        popped: Option<Choice>,
+    },
+    /// A `wfq` of these classes was offered no head of one of them. Nothing has changed.
+    Waits(u8),
+    /// The engine can't run the instruction. Nothing has changed.
+    Halted(Halt),
+}
+
+/// The engine with its directory. Contracts see the state that it stands for, as `state_of` tells, and its configuration.
+#[derive(Drop)]
+pub struct Engine {
+    pub(crate) config: Config,
+    core: Core,
+    directory: Directory,
+    ghost sound: { IsSound config core } by { IsSound-prop config core },
+    ghost same: { directory.config ≡ config },
+    ghost some_ways: { 0 < config.ways },
+}
+
+impl Engine {
+    ghost use Rattle.std.specs.Prelude.{ℕ, ◌≤◌, IfOk, Some, length};
+    ghost use Rattle.std.specs.Option.{option_copied};
+    ghost use Rattle.bk_msg.specs.declared.row.Row.{Row};
+    ghost use Rattle.bk_msg.specs.Within.{IsWithin};
+    ghost use Rattle.bk_dir.specs.Directories.{contents_of};
+    ghost use Rattle.bk_engine.specs.Core.{new_engine};
+    ghost use Rattle.bk_engine.specs.Engines.{state_of, IsStep};
+    ghost use Rattle.bk_engine.specs.Outward.{SendsWithin, PopsWithin};
+    ghost use Rattle.bk_engine.specs.Step.{runs};
+
+    /// An engine for a configuration, at its start: it stands at place 0, holds nothing, and its directory is empty.
+    ///
+    /// # Errors
+    ///
+    /// `AllocError` if the memory runs out.
+    #[tactic(auto, using(crate::proofs::Sound::sound_new))]
+    pub fn make(alloc: Global, config: Config) -> Result<Engine, AllocError>
+        ensures state { IfOk result (λ e. state_of e ≡ new_engine) }
+        ensures config { IfOk result (λ e. e.config ≡ config) }
+    {
+        let directory = Directory::make(alloc, config)?;
+        Ok(Engine {
+            config,
+            core: Core::new(),
+            directory,
+        })
+    }
+
+    /// Runs the instruction at the engine's place, or answers why it doesn't run. `head` is the head of the channel that the
+    /// choice names, where it has one; `wfq` alone looks at it.
+    pub fn step(&mut self, program: &[Instr], choice: Choice, head: Option<&Message>) -> EngineStep
+        requires few { length program.now ≤ 256 }
+        requires source { choice.source < self.old.config.caches }
+        requires within { (m : Row) → option_copied head ≡ Some m → IsWithin self.old.config m }
+        ensures step { IsStep self.old.config program.now choice (option_copied head.entry) (state_of self.old) (state_of self.new) result }
+        // Each message that is sent goes to a cache or the memory, and is of the configuration.
+        ensures within { SendsWithin self.old.config result }
+        ensures popped { PopsWithin self.old.config result }
+        ensures config { self.new.config ≡ self.old.config }
+    {
+        match stop_of(
+            self.config,
+            &self.core,
+            &self.directory,
+            program,
+            choice,
+            head,
+        ) {
+            Some(Stop::Waits(classes)) => EngineStep::Waits(classes),
+            Some(Stop::Halts(reason)) => EngineStep::Halted(reason),
+            None => run(
+                self.config,
+                &mut self.core,
+                &mut self.directory,
+                program,
+                choice,
+                head,
+            ),
+        }
+    }
+
+    /// Whether a step with these arguments would run the instruction at the engine's place.
+    pub fn runs(&self, program: &[Instr], choice: Choice, head: Option<&Message>) -> bool
+        requires { length program.now ≤ 256 }
+        ensures { result ≡ runs self.now.config (state_of self.now) program.now choice (option_copied head.entry) }
+    {
+        stop_of(
+            self.config,
+            &self.core,
+            &self.directory,
+            program,
+            choice,
+            head,
+        )
+        .is_none()
+    }
+
+    /// The place of the instruction that a step would run.
+    pub fn place(&self) -> u32
+        ensures { result ≡ (state_of self.now).core.place }
+    {
+        self.core.place
+    }
+
+    /// The engine's directory with the pending bits.
+    pub fn directory(&self) -> &Directory
+        ensures contents { contents_of result.now ≡ (state_of self.now).directory }
+        ensures config { result.now.config ≡ self.now.config }
+    {
+        &self.directory
+    }
+
+    /// Whether a way group is pending: a transaction of it is in progress.
+    pub fn pending(&self, set: u8) -> bool
+        requires { set < self.now.config.sets }
+        ensures { result ≡ (state_of self.now).directory.pending set }
+    {
+        self.directory.pending(set)
+    }
+}

@@ -1,0 +1,215 @@
+ghost use Rattle.std.specs.Prelude.{◌≡◌, ◌<◌, ◌≤◌, [], ◌∷◌, true, IfSome};
+ghost use Rattle.bk_msg.specs.Within.{IsWay};
+ghost use Rattle.bk_dir.specs.Directories.{contents_of};
+ghost use Rattle.bk_engine.specs.Kept.{IsSound};
+ghost use Rattle.bk_engine.specs.Ranges.{HasStates};
+ghost use Rattle.bk_engine.specs.Sends.{is_owner, is_invalidated, invs, flush_to, victim_address, flushes, transfer_to, grants, answers_word, writes_back, sends_for, sends_held, sends};
+ghost use Rattle.bk_msg.specs.Table.{holds};
+ghost use Rattle.bk_msg.specs.declared.table.States.TheVariants.{Lowered, Left, Received, Granted};
+
+use crate::parts::{Core, Held, Kept};
+use crate::reads::summary_for;
+use arrayvec::ArrayVec;
+use bk_base::{Addr, Coh, Config, group_of, word_of};
+use bk_dir::{Directory, Summary};
+use bk_isa::Form;
+use bk_msg::Message;
+
+/// The messages of an instruction: `inv` alone may send more than one, one for each cache at most.
+pub(crate) type Sent = ArrayVec<Message, 16>;
+
+fn no_message() -> Sent
+    ensures { result.items ≡ [] }
+{
+    ArrayVec::new()
+}
+
+fn one_message(message: Message) -> Sent
+    ensures { result.items ≡ message ∷ [] }
+{
+    let mut sent = ArrayVec::new();
+    sent.push(message);
+    sent
+}
+
+fn is_owner(at: Option<(u8, u8)>, cache: u8) -> bool
+    ensures { result ≡ is_owner at cache }
+{
+    match at {
+        None => false,
+        Some((owner, _)) => cache == owner,
+    }
+}
+
+/// Whether a cache is sent an invalidation: one of the others, and the owner where it is asked for.
+pub(crate) fn is_invalidated(with_owner: bool, summary: &Summary, cache: u8) -> bool
+    requires { cache < 8 }
+    ensures { result ≡ is_invalidated with_owner summary.now cache }
+{
+    let is_other = (summary.others >> cache) % 2 == 1;
+    is_other || (with_owner && is_owner(summary.owner, cache))
+}
+
+/// An invalidation to each cache that is sent one, by cache.
+fn invs(config: Config, held: &Held, with_owner: bool, summary: &Summary) -> Sent
+    requires { config.caches ≤ 8 }
+    ensures { result.items ≡ invs config held.now with_owner summary.now }
+{
+    let mut sent = ArrayVec::new();
+    for cache in 0..config.caches {
+        if is_invalidated(with_owner, summary, cache) {
+            sent.push(Message::inv(cache, held.addr));
+        }
+    }
+    sent
+}
+
+fn flush_to(at: Option<(u8, u8)>, state: Coh, addr: Addr) -> Sent
+    requires at { IfSome at (λ a. a.0 < 8) }
+    requires state { holds Lowered state ≡ true }
+    ensures { result.items ≡ flush_to at state addr }
+{
+    match at {
+        None => no_message(),
+        Some((cache, _)) => one_message(Message::st_wb(cache, state, addr)),
+    }
+}
+
+/// The address of the block that stands where the request's is to be placed: its tag is the entry's.
+fn victim_address(config: Config, directory: &Directory, held: &Held) -> Addr
+    requires config { directory.now.config ≡ config }
+    requires way { IsWay config held.now.source held.now.way }
+    ensures { result ≡ victim_address config (contents_of directory.now) held.now }
+{
+    let group = group_of(config, held.addr);
+    let tag = directory.entry(held.source, group, held.way).tag;
+    Addr::of_block(config, group, tag)
+}
+
+/// A flush of an entry: the requester's own (0), the owner's (1), the victim (2).
+fn flushes(config: Config, directory: &Directory, held: &Held, who: u8, state: Coh) -> Sent
+    requires config { directory.now.config ≡ config }
+    requires few { config.caches ≤ 8 }
+    requires way { IsWay config held.now.source held.now.way }
+    requires state { holds Lowered state ≡ true }
+    ensures { result.items ≡ flushes config (contents_of directory.now) held.now who state }
+{
+    match who {
+        0 => one_message(Message::st_wb(held.source, state, held.addr)),
+        1 => {
+            let owner = summary_for(config, directory, held).owner;
+            flush_to(owner, state, held.addr)
+        }
+        _ => {
+            let addr = victim_address(config, directory, held);
+            one_message(Message::st_wb(held.source, state, addr))
+        }
+    }
+}
+
+fn transfer_to(held: &Held, at: Option<(u8, u8)>, owner_state: Coh, state: Coh) -> Sent
+    requires at { IfSome at (λ a. a.0 < 8) }
+    requires peer { held.now.source < 8 }
+    requires way { held.now.way < 8 }
+    requires owner_state { holds Left owner_state ≡ true }
+    requires state { holds Received state ≡ true }
+    ensures { result.items ≡ transfer_to held.now at owner_state state }
+{
+    match at {
+        None => no_message(),
+        Some((cache, _)) => one_message(Message::st_tr(
+            cache,
+            owner_state,
+            held.source,
+            held.way,
+            state,
+            held.addr,
+        )),
+    }
+}
+
+fn grants(held: &Held, state: Coh, got: &Option<[u64; 8]>) -> Sent
+    requires source { held.now.source < 8 }
+    requires way { held.now.way < 8 }
+    requires state { holds Granted state ≡ true }
+    ensures { result.items ≡ grants held.now state got.now }
+{
+    match got {
+        None => no_message(),
+        Some(words) => one_message(Message::blk(held.source, held.way, state, held.addr, *words)),
+    }
+}
+
+fn answers_word(held: &Held, got: &Option<[u64; 8]>) -> Sent
+    requires { held.now.source < 8 }
+    ensures { result.items ≡ answers_word held.now got.now }
+{
+    match got {
+        None => no_message(),
+        Some(words) => {
+            let word = words[word_of(held.addr) as usize];
+            one_message(Message::uc_blk(held.source, held.addr, word))
+        }
+    }
+}
+
+fn writes_back(dirty: &Option<Kept>) -> Sent
+    ensures { result.items ≡ writes_back dirty.now }
+{
+    match dirty {
+        None => no_message(),
+        Some(kept) => one_message(Message::write(kept.addr, kept.words)),
+    }
+}
+
+/// The messages that an instruction sends for the held request.
+fn sends_for(config: Config, core: &Core, directory: &Directory, held: &Held, form: Form) -> Sent
+    requires config { directory.now.config ≡ config }
+    requires few { config.caches ≤ 8 }
+    requires few_ways { config.ways ≤ 8 }
+    requires way { IsWay config held.now.source held.now.way }
+    requires states { HasStates form }
+    ensures { result.items ≡ sends_for config (record { core = core.now; directory = contents_of directory.now }) held.now form }
+{
+    match form {
+        Form::Inv { a } => invs(config, held, a == 1, &summary_for(config, directory, held)),
+        Form::Stwb { a, b } => flushes(config, directory, held, a, b),
+        Form::Tr { a, b } => {
+            let owner = summary_for(config, directory, held).owner;
+            transfer_to(held, owner, a, b)
+        }
+        Form::Blk { a } => grants(held, a, &core.got),
+        Form::Wake => one_message(Message::st_wake(held.source, held.way, held.addr)),
+        Form::Ucblk => answers_word(held, &core.got),
+        Form::Ucdone => one_message(Message::uc_done(held.source, held.addr)),
+        Form::Done => one_message(Message::done(held.source, held.addr)),
+        Form::Memrd => one_message(Message::read(held.addr)),
+        Form::Memww => one_message(Message::write_word(held.addr, held.value)),
+        _ => no_message(),
+    }
+}
+
+fn sends_held(config: Config, core: &Core, directory: &Directory, form: Form) -> Sent
+    requires config { directory.now.config ≡ config }
+    requires sound { IsSound config core.now }
+    requires states { HasStates form }
+    ensures { result.items ≡ sends_held config (record { core = core.now; directory = contents_of directory.now }) core.now.held form }
+{
+    match &core.held {
+        None => no_message(),
+        Some(held) => sends_for(config, core, directory, held, form),
+    }
+}
+
+/// The messages that an instruction sends, in order, where it runs.
+pub(crate) fn sends(config: Config, core: &Core, directory: &Directory, form: Form) -> Sent
+    requires config { directory.now.config ≡ config }
+    requires sound { IsSound config core.now }
+    requires states { HasStates form }
+    ensures { result.items ≡ sends config (record { core = core.now; directory = contents_of directory.now }) form }
+{
+    match form {
+        Form::Memwb => writes_back(&core.dirty),
+        _ => sends_held(config, core, directory, form),
+    }
+}
