@@ -11,6 +11,7 @@ use Rattle.bk_engine.specs.declared.parts.Head.{Head}
 use Rattle.bk_engine.specs.declared.parts.Held.{Held}
 use Rattle.bk_engine.specs.Core.{EngineState}
 use Rattle.bk_engine.specs.Heads.{request_of}
+use Rattle.bk_engine.specs.Sends.{sends}
 use Rattle.bk_engine.specs.Changes.{arithmetic, moves, reads_held, reads_request, flags_set, took, popped, waited, serves, core_changed, core_after, directory_after}
 use Rattle.bk_bridge.specs.Formed.{IsWhole, WellFormedEngine}
 use Rattle.bk_bridge.proofs.Tags.{directory_below}
@@ -97,28 +98,29 @@ waited-formed e choice (Some m) h w = record { head = w; held = h.held; dirty = 
 
 -- THE REQUEST
 
-serves-formed : (k : Shape) (n : EngineState) (f : Form) → FormedCore n.core → FormedCore (serves k n f)
-serves-formed k n Rdw h = record { head = h.head; held = h.held; dirty = h.dirty; got = h.got }
-serves-formed k n Gad h = record { head = h.head; held = h.held; dirty = h.dirty; got = h.got }
-serves-formed k n Fin h = record { head = h.head; held = tt; dirty = h.dirty; got = tt }
-serves-formed k n (Inv a) h = record { head = h.head; held = h.held; dirty = h.dirty; got = h.got }
-serves-formed k n Memwb h = record { head = h.head; held = h.held; dirty = tt; got = h.got }
-serves-formed k n (Mova a) h = request_read-formed n.core n.core.held (Mova a) h
-serves-formed k n (Movs a) h = request_read-formed n.core n.core.held (Movs a) h
-serves-formed k n (Movw a) h = request_read-formed n.core n.core.held (Movw a) h
-serves-formed k n f h = flags-formed n.core f h
+serves-formed : (e : Core) (sent : ℕ) (f : Form) → FormedCore e → FormedCore (serves e sent f)
+serves-formed e sent Rdw h = record { head = h.head; held = h.held; dirty = h.dirty; got = h.got }
+serves-formed e sent Gad h = record { head = h.head; held = h.held; dirty = h.dirty; got = h.got }
+serves-formed e sent Fin h = record { head = h.head; held = tt; dirty = h.dirty; got = tt }
+serves-formed e sent (Inv a) h = record { head = h.head; held = h.held; dirty = h.dirty; got = h.got }
+serves-formed e sent Memwb h = record { head = h.head; held = h.held; dirty = tt; got = h.got }
+serves-formed e sent (Mova a) h = request_read-formed e e.held (Mova a) h
+serves-formed e sent (Movs a) h = request_read-formed e e.held (Movs a) h
+serves-formed e sent (Movw a) h = request_read-formed e e.held (Movw a) h
+serves-formed e sent f h = flags-formed e f h
 
-changed-formed : (k : Shape) (n : EngineState) (f : Form) (choice : Choice) (message : Option Row) → FormedCore n.core → IfSome message IsWhole
-    → FormedCore (core_changed k n f choice message)
-changed-formed k n (Wfq classes) choice message h w = waited-formed n.core choice message h w
-changed-formed k n (Popq wp) choice message h w = popped-formed n.core n.core.head h h.head
-changed-formed k n Defer choice message h w = record { head = tt; held = h.held; dirty = h.dirty; got = h.got }
-changed-formed k n f choice message h w = serves-formed k n f h
+changed-formed : (e : Core) (sent : ℕ) (f : Form) (choice : Choice) (message : Option Row) → FormedCore e → IfSome message IsWhole
+    → FormedCore (core_changed e sent f choice message)
+changed-formed e sent (Wfq classes) choice message h w = waited-formed e choice message h w
+changed-formed e sent (Popq wp) choice message h w = popped-formed e e.head h h.head
+changed-formed e sent Defer choice message h w = record { head = tt; held = h.held; dirty = h.dirty; got = h.got }
+changed-formed e sent f choice message h w = serves-formed e sent f h
 
 core-formed : (k : Shape) (n : EngineState) (f : Form) (choice : Choice) (message : Option Row) → FormedCore n.core → IfSome message IsWhole
     → FormedCore (core_after k n f choice message)
 core-formed k n f choice message h w =
-    let new : FormedCore (core_changed k n f choice message) = changed-formed k n f choice message h w in
+    let new : FormedCore (core_changed n.core (length (sends k n f)) f choice message)
+        = changed-formed n.core (length (sends k n f)) f choice message h w in
     record { head = new.head; held = new.held; dirty = new.dirty; got = new.got }
 
 -- THE ENGINE

@@ -24,4 +24,3 @@ pub mod Tags
 pub mod CoreFormed
 pub mod SendsFormed
 pub mod EngineEvent
-pub mod EngineWrites

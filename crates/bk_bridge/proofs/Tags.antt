@@ -16,7 +16,7 @@ use Rattle.bk_engine.specs.Core.{EngineState}
 use Rattle.bk_engine.specs.Heads.{head_number}
 use Rattle.bk_engine.specs.Reads.{summary_for}
 use Rattle.bk_engine.specs.Sends.{is_invalidated}
-use Rattle.bk_engine.specs.Changes.{wiped, invalidates, state_written, named_written, directory_for, directory_held, message_marked, head_marked, directory_after}
+use Rattle.bk_engine.specs.Changes.{wiped, wiped_at, invalidates, state_written, named_written, directory_for, directory_held, message_marked, head_marked, directory_after}
 use Rattle.bk_msg.specs.declared.row.Row.{Row}
 use Rattle.std.specs.Prelude.{nat_lt, ◌==◌}
 use Rattle.bk_bridge.proofs.Places.{sets_pos}
@@ -72,12 +72,15 @@ named_below k d held who state h =
 wiped_below : (k : Shape) (row : ℕ → Entry) (tag w : ℕ) → ((w : ℕ) → (row w).tag < tag_limit k) → (wiped tag (row w)).tag < tag_limit k
 wiped_below k row tag w h = cond-all (λ (y : Entry). y.tag < tag_limit k) (holds (row w) tag) _ _ (h w) (h w)
 
+wiped_at-below : (k : Shape) (row : ℕ → Entry) (tag w : ℕ) → ((w : ℕ) → (row w).tag < tag_limit k) → (wiped_at k tag row w).tag < tag_limit k
+wiped_at-below k row tag w h = cond-all (λ (y : Entry). y.tag < tag_limit k) (nat_lt w k.ways) _ _ (wiped_below k row tag w h) (h w)
+
 invalidated_below : (k : Shape) (d : Contents) (held : Held) (with_owner : Bool) (sum : Summary) → TagsBelow k d
     → TagsBelow k (invalidates k d held with_owner sum)
 invalidated_below k d held with_owner sum h c =
     cond-all (λ (table : ℕ → ℕ → Entry). (s w : ℕ) → (table s w).tag < tag_limit k) (is_invalidated with_owner sum c) _ _
     (put-all (λ (row : ℕ → Entry). (w : ℕ) → (row w).tag < tag_limit k) (d.entries c) (group_of k held.addr) _ (h c)
-    (λ w. wiped_below k (d.entries c (group_of k held.addr)) (tag_at k held.addr) w (h c (group_of k held.addr))))
+    (λ w. wiped_at-below k (d.entries c (group_of k held.addr)) (tag_at k held.addr) w (h c (group_of k held.addr))))
     (h c)
 
 for_below : (k : Shape) (d : Contents) (held : Held) (f : Form) → InProfile k → IsAddr held.addr → TagsBelow k d
