@@ -1,7 +1,10 @@
 -- A log that is made one event at a time.
 use Rattle.std.proofs.Common.{◌≡◌, ℕ, suc, ◌+◌, ◌<◌, List, ◌∷◌, ◌++◌, ap, sym, ◌∙◌, length, get_or, drop, drop-cons, add-one, append_assoc}
+use Rattle.std.proofs.Common.{take, flat_map, arith}
+use Rattle.std.proofs.lemmas.Grind.{common_steps}
 use Rattle.bk_base.specs.Places.{Shape}
 use Rattle.bk_isa.specs.declared.form.Form.{Form}
+use Rattle.bk_msg.specs.declared.row.Row.{Row}
 use Rattle.bk_system.specs.declared.event.Event.{Event}
 use Rattle.bk_system.specs.declared.event.Stepped.{Stepped}
 use Rattle.bk_system.specs.State.{State}
@@ -27,3 +30,8 @@ module _ (k q : Shape) (program : List Form) (events : List Event) (i : ℕ) (ev
       ∙ append_assoc out (row_text event (row k program s event)) (log_from k program t rest)
       ∙ ap (λ (x : State). out ++ (row_text event (row k program s event) ++ log_from k program x rest)) state
       ∙ ap (λ (x : List ℕ). out ++ x) (sym here) ∙ so_far
+
+-- the lines of one more message
+pub lines-more : (f : Row → List ℕ) (xs : List Row) (i : ℕ) (x : Row) (was out next : List ℕ) → i < length xs → x ≡ get_or xs i x
+    → out ≡ was ++ flat_map f (take i xs) → next ≡ out ++ f x → next ≡ was ++ flat_map f (take (i + 1) xs)
+lines-more f xs i x was out next l e before now = grind (arith, common_steps)
