@@ -24,11 +24,7 @@ fn push_message(alloc: Global, out: &mut String, message: &Message) -> Result<()
 }
 
 /// Writes the lines of messages, in order.
-fn push_messages(
-    alloc: Global,
-    out: &mut String,
-    messages: &[Message],
-) -> Result<(), AllocError>
+fn push_messages(alloc: Global, out: &mut String, messages: &[Message]) -> Result<(), AllocError>
     ensures { OnOk result (string_bytes out.new ≡ string_bytes out.old ++ flat_map message_text messages.now) }
 {
     for message in messages {

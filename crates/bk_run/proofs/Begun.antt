@@ -194,8 +194,10 @@ with_taken-begun c at s t ops h = go (cases_eq at c)
   where
     done : List Done
     done = option_to_list t.done
+
     split : completed_by c (s.history ++ done) ≡ completed_by c s.history ++ completed_by c done
     split = completed_by-append c s.history done
+
     go : (at ≡ c) ⊎ (at ≡ c → ⊥) → completed_by c (s.history ++ done) ++ operation_in (put s.caches at t.state c).busy ≡ completed_by c s.history ++ cond (eqb at c) ops (operation_in (s.caches c).busy)
     go (inl same) =
         let own : completed_by c done ≡ ops_of t.done = own-completed c t.done (subst (λ i. IsOwn i t.done) same h.own) in

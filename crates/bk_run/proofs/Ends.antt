@@ -1,5 +1,5 @@
 -- What is known at the end of a run of the greedy schedule, and of a report.
-use Rattle.std.proofs.Common.{◌≡◌, ℕ, ◌<◌, ◌≤◌, ◌↔◌, List, Bool, Option, Some, None, refl, ap, sym, subst, ◌∙◌, inl, inr, length, arith}
+use Rattle.std.proofs.Common.{◌≡◌, ℕ, ◌<◌, ◌≤◌, ◌↔◌, List, Bool, Option, Some, None, refl, ap, subst, ◌∙◌, inl, inr, length, arith}
 use Rattle.std.specs.Prelude.{IsTrue, IsSome, option_map}
 use Rattle.std.proofs.lemmas.Bool.{cases_eq}
 use Rattle.bk_base.specs.Places.{Shape}

@@ -7,16 +7,15 @@ use Rattle.bk_base.specs.Places.{Shape}
 use Rattle.bk_base.specs.declared.op.Op.{Op}
 use Rattle.bk_isa.specs.declared.form.Form.{Form}
 use Rattle.bk_msg.specs.declared.row.Row.{Row}
-use Rattle.bk_engine.specs.declared.parts.Choice.{Choice}
 use Rattle.bk_trace.specs.Traces.{operations_of}
 use Rattle.bk_lce.specs.declared.line.WayView.{WayView}
 use Rattle.bk_lce.specs.CacheTable.{Taken, issue}
 use Rattle.bk_system.specs.declared.event.Event.{Event}
 use Rattle.bk_system.specs.declared.event.Event.TheVariants.{Issue, Command, Fill, Memory, Engine}
 use Rattle.bk_system.specs.State.{State, opening}
-use Rattle.bk_system.specs.Events.{Happening, first, takes, with_taken, issue_taken, command_of, command_taken, without_command, fill_of, fill_taken, without_fill, accessed, engine_row, can_run}
+use Rattle.bk_system.specs.Events.{Happening, first, takes, issue_taken, command_of, command_taken, without_command, fill_of, fill_taken, without_fill, accessed, can_run}
 use Rattle.bk_system.specs.Runs.{is_enabled, after, state_after_row, issued_by, completed_by, IsPrefix, IsInOrder}
-use Rattle.bk_run.specs.Greedy.{next_operation, IsLeast, IsGreedyFrom, IsGreedy}
+use Rattle.bk_run.specs.Greedy.{next_operation, IsGreedyFrom, IsGreedy}
 use Rattle.bk_run.proofs.Tight.{IsPicked, Each, taken-picked, taken-some}
 use Rattle.bk_run.proofs.Begun.{begun, operation_in, Moves, Begins, issue-begins, command-moves, fill-moves, with_taken-begun}
 

@@ -1,5 +1,5 @@
 -- Texts that are written piece by piece.
-use Rattle.std.proofs.Common.{◌≡◌, ℕ, ◌+◌, List, ◌++◌, refl, ap, sym, ◌∙◌, add-one, append_assoc}
+use Rattle.std.proofs.Common.{◌≡◌, ℕ, ◌+◌, List, ◌++◌, refl, ap, ◌∙◌, add-one, append_assoc}
 use Rattle.bk_base.specs.Counting.{join_below}
 
 -- one piece more follows those before it

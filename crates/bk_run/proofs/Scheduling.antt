@@ -1,14 +1,11 @@
 -- Runs one event at a time, as loops make them.
-use Rattle.std.proofs.Common.{◌≡◌, ℕ, suc, ◌+◌, ◌-◌, ◌<◌, ◌≤◌, List, [], ◌∷◌, ◌++◌, Option, Some, None, refl, ap, sym, ◌∙◌, length, get_or, drop, drop-cons, add-one, append_assoc, arith}
-use Rattle.std.proofs.lemmas.List.{append-nil}
+use Rattle.std.proofs.Common.{◌≡◌, ℕ, suc, ◌+◌, ◌<◌, List, [], ◌∷◌, ◌++◌, Option, refl, ap, sym, ◌∙◌, length, get_or, drop, drop-cons, add-one}
 use Rattle.bk_base.specs.Places.{Shape}
 use Rattle.bk_base.specs.declared.op.Op.{Op}
 use Rattle.bk_isa.specs.declared.form.Form.{Form}
 use Rattle.bk_system.specs.declared.event.Event.{Event}
-use Rattle.bk_system.specs.declared.event.Event.TheVariants.{Command, Fill, Memory}
 use Rattle.bk_system.specs.declared.event.Stepped.{Stepped}
 use Rattle.bk_system.specs.declared.event.Stepped.TheVariants.{Disabled, Ran}
-use Rattle.bk_base.specs.Counting.{first_below}
 use Rattle.bk_system.specs.State.{State}
 use Rattle.bk_system.specs.Events.{Happening, row}
 use Rattle.bk_system.specs.Runs.{after, state_after_row, run_from}

@@ -1,6 +1,6 @@
 -- The greedy schedule: what an event that it takes is, where it stands.
-use Rattle.std.proofs.Common.{◌≡◌, ℕ, zero, suc, ◌<◌, ◌≤◌, List, [], ◌∷◌, Bool, true, false, ◌&&◌, Option, Some, None, refl, subst, ap, sym, ◌∙◌, arith}
-use Rattle.std.specs.Prelude.{option_and_then, option_map, if◌then◌else◌, IsTrue, is_some, is_none, nat_lt, nat_le, MatchOption}
+use Rattle.std.proofs.Common.{◌≡◌, ℕ, zero, suc, ◌<◌, ◌≤◌, List, [], ◌∷◌, Bool, true, false, ◌&&◌, Option, Some, None, refl, subst, sym, arith}
+use Rattle.std.specs.Prelude.{option_and_then, option_map, if◌then◌else◌, IsTrue, is_some, nat_lt, nat_le, MatchOption}
 use Rattle.std.proofs.lemmas.Bool.{and_parts, lt-ltb, leb-true}
 use Rattle.bk_base.specs.Places.{Shape, InProfile, group_of}
 use Rattle.bk_base.specs.declared.op.Op.{Op}
@@ -16,7 +16,7 @@ use Rattle.bk_base.specs.Counting.{or_else, first_below}
 use Rattle.bk_system.specs.State.{State, opening}
 use Rattle.bk_system.specs.Events.{takes, issue_taken}
 use Rattle.bk_system.specs.Runs.{is_enabled, after, IsTightFrom, IsTight}
-use Rattle.bk_run.specs.Greedy.{if_enabled, next_operation, ready, issue_with, choice_of, engine_of, fill_from, least_other, least_enabled, IsAsked, IsLeast, IsEnd, IsGreedyFrom, IsGreedy}
+use Rattle.bk_run.specs.Greedy.{if_enabled, next_operation, ready, issue_with, choice_of, engine_of, least_other, least_enabled, IsAsked, IsLeast, IsEnd, IsGreedyFrom, IsGreedy}
 
 -- an Issue has the next operation of its cache in the trace
 abbrev pub IsNext : State → List (ℕ × Op) → Event → Type 0

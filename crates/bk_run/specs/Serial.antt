@@ -1,5 +1,5 @@
 -- How a run of the greedy schedule may end.
-use Rattle.std.specs.Prelude.{◌≡◌, ℕ, ◌≤◌, ◌↔◌, List, Bool, None, length, IsTrue, IsSome}
+use Rattle.std.specs.Prelude.{◌≡◌, ℕ, ◌≤◌, ◌↔◌, List, Bool, length, IsTrue, IsSome}
 use Rattle.bk_base.specs.Places.{Shape}
 use Rattle.bk_base.specs.declared.op.Op.{Op}
 use Rattle.bk_lce.specs.declared.line.WayView.{WayView}

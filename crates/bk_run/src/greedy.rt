@@ -20,9 +20,7 @@ fn next_operation<'a>(hardware: &Hardware, trace: &'a Trace, cache: u8) -> Optio
     requires cache { cache < hardware.now.config.caches }
     ensures { option_copied result ≡ next_operation (state_of hardware.now) trace.now.lines cache }
 {
-    trace
-        .operations(cache)
-        .get(hardware.completed(cache))
+    trace.operations(cache).get(hardware.completed(cache))
 }
 
 /// The event, if it is enabled.

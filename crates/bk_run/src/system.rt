@@ -24,11 +24,7 @@ pub struct System<F> {
 
 impl<F: Fn(&[WayView]) -> u8 + Copy + Send> System<F> {
     /// A system at its opening: empty caches and directory, memory of zeros, empty channels, the engine at its start.
-    pub fn make(
-        alloc: Global,
-        config: Config,
-        victim: Victim<F>,
-    ) -> Result<System<F>, AllocError>
+    pub fn make(alloc: Global, config: Config, victim: Victim<F>) -> Result<System<F>, AllocError>
         ensures state { IfOk result (λ system. state_of system.hardware ≡ opening config) }
         ensures config { IfOk result (λ system. system.hardware.config ≡ config) }
         ensures victim { IfOk result (λ system. system.victim ≡ victim) }

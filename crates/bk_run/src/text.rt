@@ -104,13 +104,7 @@ fn letter_of(state: Coh) -> &'static str
 }
 
 /// Writes the line of an entry that holds a block, and nothing for another one.
-fn push_line(
-    out: &mut String,
-    cache: u8,
-    set: u8,
-    way: u8,
-    line: &Line,
-) -> Result<(), AllocError>
+fn push_line(out: &mut String, cache: u8, set: u8, way: u8, line: &Line) -> Result<(), AllocError>
     ensures { OnOk result (string_bytes out.new ≡ string_bytes out.old ++ line_text cache set way line.now) }
 {
     if matches!(line.state, Coh::I) {
@@ -122,12 +116,7 @@ fn push_line(
 }
 
 /// Writes the lines of a set of a cache, by way.
-fn push_set(
-    out: &mut String,
-    hardware: &Hardware,
-    cache: u8,
-    set: u8,
-) -> Result<(), AllocError>
+fn push_set(out: &mut String, hardware: &Hardware, cache: u8, set: u8) -> Result<(), AllocError>
     requires cache { cache < hardware.now.config.caches }
     requires set { set < hardware.now.config.sets }
     ensures { OnOk result (string_bytes out.new ≡ string_bytes out.old ++ set_text hardware.now.config (state_of hardware.now).caches cache set) }

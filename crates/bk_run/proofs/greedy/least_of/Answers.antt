@@ -1,4 +1,4 @@
-use Rattle.std.proofs.Common.{◌≡◌, ℕ, ◌<◌, Some, List, sym, ap, subst, ◌∙◌}
+use Rattle.std.proofs.Common.{◌≡◌, ℕ, ◌<◌, List, sym, ap, subst, ◌∙◌}
 use Rattle.std.specs.Fn.{FnReturnsAt}
 use Rattle.bk_base.specs.Places.{Shape, InProfile, group_of}
 use Rattle.bk_lce.specs.declared.line.WayView.{WayView}
@@ -22,10 +22,10 @@ returns-in-Some g c =
     let s = state_of c.args.hardware.now in
     let policy : List WayView → ℕ → Type 0 = FnReturnsAt g.F.Fn c.args.victim.now.pick in
     let set : c.group_of-set.result ≡ group_of k (address_of c.in-Some.op) =
-        c.group_of-set.ensures.value ∙ ap (λ (q : Shape). group_of q c.address_of.result) (c.config-config.ensures.value ∙ c.requires.config) ∙ ap (group_of k) c.address_of.ensures in
+    c.group_of-set.ensures.value ∙ ap (λ (q : Shape). group_of q c.address_of.result) (c.config-config.ensures.value ∙ c.requires.config) ∙ ap (group_of k) c.address_of.ensures in
     let way : c.choose-way.result < k.ways = subst (λ (q : Shape). c.choose-way.result < q.ways) c.cache.ensures.config c.choose-way.ensures.within in
     let asked : policy (views k (s.caches c.in-Some.cache) (group_of k (address_of c.in-Some.op))) c.choose-way.result =
-        subst (λ (g : ℕ). policy (views k (s.caches c.in-Some.cache) g) c.choose-way.result) set
-        (subst (λ (n : CacheState). policy (views k n c.group_of-set.result) c.choose-way.result) c.cache.ensures.state
-        (subst (λ (q : Shape). policy (views q (caches.state_of c.cache.result.now) c.group_of-set.result) c.choose-way.result) c.cache.ensures.config c.choose-way.ensures.answer)) in
+    subst (λ (g : ℕ). policy (views k (s.caches c.in-Some.cache) g) c.choose-way.result) set
+    (subst (λ (n : CacheState). policy (views k n c.group_of-set.result) c.choose-way.result) c.cache.ensures.state
+    (subst (λ (q : Shape). policy (views q (caches.state_of c.cache.result.now) c.group_of-set.result) c.choose-way.result) c.cache.ensures.config c.choose-way.ensures.answer)) in
     least-ready policy k c.args.program.now s c.args.trace.now.lines c.in-Some.cache c.in-Some.op c.choose-way.result way (sym c.first_ready.ensures.first ∙ c.in-Some.is) asked

@@ -1,5 +1,4 @@
-use Rattle.std.proofs.Common.{◌≡◌, ℕ, ◌+◌, ◌^◌, length, drop, sym, ap, subst, ◌∙◌, add_assoc, arith}
-use Rattle.bk_run.specs.Counted.{IsAtMost}
+use Rattle.std.proofs.Common.{◌≡◌, ◌+◌, ◌^◌, length, drop, sym, subst, arith}
 use Rattle.bk_run.specs.Report.{count_sent}
 use Rattle.bk_run.specs.declared.counts.Counts.{Counts}
 use Rattle.bk_run.proofs.Counted.{at_most_higher, count_sent-next}

@@ -1,4 +1,4 @@
-use Rattle.std.proofs.Common.{ℕ, ◌+◌, ◌*◌, length, arith}
+use Rattle.std.proofs.Common.{◌+◌, ◌*◌, length, arith}
 use Rattle.bk_run.proofs.Counted.{at_most_higher}
 use Rattle.bk_run.proofs.reports.count_stepped.Goals as goal
 

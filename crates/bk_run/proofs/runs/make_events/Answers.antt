@@ -1,4 +1,4 @@
-use Rattle.std.proofs.Common.{◌≡◌, ℕ, ◌+◌, ◌++◌, ◌∷◌, [], List, ap, sym, ◌∙◌, subst, length, length-append, arith}
+use Rattle.std.proofs.Common.{◌≡◌, ℕ, ◌+◌, ◌++◌, ◌∷◌, [], List, ap, sym, ◌∙◌, subst, length, length-append}
 use Rattle.std.specs.Fn.{FnReturnsAt}
 use Rattle.bk_base.specs.Places.{Shape}
 use Rattle.bk_lce.specs.declared.line.WayView.{WayView}
@@ -18,8 +18,8 @@ loop-preserved g c =
     let policy : List WayView → ℕ → Type 0 = FnReturnsAt g.F.Fn c.args.victim.now.pick in
     let next : state_of c.happen.new.self ≡ after k p (state_of c.loop.hardware) event = c.in-Ok.ensures.state ∙ ap (λ (z : Shape). after z p (state_of c.loop.hardware) event) c.loop.invariant.config in
     let least : IsLeast policy k p (run k p c.loop.events.items) c.args.trace.now.lines event =
-        subst (λ (s : State). IsLeast policy k p s c.args.trace.now.lines event) c.loop.invariant.state
-        (subst (λ (z : Shape). IsLeast policy z p (state_of c.loop.hardware) c.args.trace.now.lines event) c.loop.invariant.config c.in-Some.ensures) in
+    subst (λ (s : State). IsLeast policy k p s c.args.trace.now.lines event) c.loop.invariant.state
+    (subst (λ (z : Shape). IsLeast policy z p (state_of c.loop.hardware) c.args.trace.now.lines event) c.loop.invariant.config c.in-Some.ensures) in
     let more : c.push.new.self.items ≡ c.loop.events.items ++ event ∷ [] = c.in-Ok-push.ensures.items in
     let count : length c.push.new.self.items ≡ c.loop.counter + 1 = ap length more ∙ length-append c.loop.events.items (event ∷ []) ∙ ap (λ (n : ℕ). n + 1) c.loop.invariant.count in
     record {

@@ -1,4 +1,4 @@
-use Rattle.std.proofs.Common.{◌≡◌, ◌≤◌, length}
+use Rattle.std.proofs.Common.{◌≡◌, length}
 use Rattle.std.specs.Fn.{FnReturnsAt}
 use Rattle.bk_system.specs.Runs.{run}
 use Rattle.bk_run.specs.Greedy.{IsGreedy}
