@@ -4,7 +4,6 @@ use Rattle.bk_base.specs.Places.{Shape, group_of, tag_at}
 use Rattle.bk_base.specs.Counting.{join_below, least_below}
 use Rattle.bk_base.specs.States.{is_readable}
 use Rattle.bk_base.specs.Tables.{put}
-use Rattle.bk_base.specs.declared.coh.Coh.{Coh}
 use Rattle.bk_base.specs.declared.coh.Coh.TheVariants.{I}
 use Rattle.bk_lce.specs.declared.line.Line.{Line}
 use Rattle.bk_lce.specs.declared.line.InProgress.{InProgress}

@@ -1,5 +1,5 @@
 -- What a victim policy is asked, and which way is the oldest.
-use Rattle.std.specs.Prelude.{◌≡◌, ℕ, ◌<◌, ◌≤◌, List, [], ◌∷◌, length, map, position, not, ◌==◌, unwrap_or, MatchOption, slice_get, Option, Some}
+use Rattle.std.specs.Prelude.{◌≡◌, ℕ, ◌<◌, ◌≤◌, List, length, map, position, not, ◌==◌, unwrap_or, MatchOption, slice_get, Some}
 use Rattle.bk_base.specs.Places.{Shape}
 use Rattle.bk_base.specs.States.{is_readable}
 use Rattle.bk_lce.specs.declared.line.WayView.{WayView}

@@ -1,21 +1,27 @@
 -- The channels of a network kept in a list.
-use Rattle.std.proofs.Common.{◌≡◌, ℕ, zero, suc, ◌<◌, ◌≤◌, List, [], ◌∷◌, ◌++◌, Bool, true, false, cond, eqb, Option, Some, None, refl, ap, sym, ◌∙◌, length, get_or, set, arith}
+use Rattle.std.proofs.Common.{◌≡◌, ◌≢◌, ℕ, zero, suc, ◌<◌, ◌≤◌, List, [], ◌∷◌, ◌++◌, Bool, true, false, cond, eqb, Option, Some, None, refl, ap, sym, ◌∙◌, length, get_or, set, arith}
 use Rattle.std.specs.Prelude.{slice_get, ◌==◌}
 use Rattle.std.specs.Option.{option_map_or}
 use Rattle.std.proofs.lemmas.Bool.Decides.{nat_tests}
 use mathlib.Core.Path.{fun_ext}
-use Rattle.std.specs.Option.{option_copied, option_to_list, MatchOption}
+use Rattle.std.specs.Option.{option_copied, option_to_list, MatchOption, IfSome}
+use Rattle.std.specs.Prelude.{⊤, All}
+use Rattle.bk_engine.specs.Outward.{IsOutward}
+use Rattle.std.proofs.Common.{Result, Ok, Err}
+use Rattle.std.specs.Result.{OnOk}
 use Rattle.std.specs.Slice.{IsItemAt}
 use Rattle.std.specs.Vec.{vec_len}
-use Rattle.std.specs.VecDeque.{deque_len}
-use Rattle.std.specs.declared.collections.VecDeque.{VecDeque}
-use Rattle.std.specs.declared.alloc.Global.{Global}
+use Rattle.std.specs.VecDeque.{deque_len, deque_capacity}
 use Rattle.std.specs.Borrow.{Bor}
+use Rattle.std.proofs.Common.{◌+◌, ◌-◌, drop, subst}
+use Rattle.bk_base.specs.Places.{Shape}
 use Rattle.bk_msg.specs.declared.row.Row.{Row}
+use Rattle.bk_msg.specs.Within.{IsWithin}
 use Rattle.bk_base.specs.Tables.{put}
 use Rattle.bk_system.specs.declared.channels.Channels.{Channels}
 use Rattle.bk_base.specs.Counting.{is_nil}
-use Rattle.bk_system.specs.Channels.{queue}
+use Rattle.bk_system.specs.Queues.{Queue, queues_of, rooms_of, EachWithin, AreWithin}
+use Rattle.bk_system.specs.Channels.{queue, room}
 
 -- f of the value at a place, or a default past the end
 abbrev pub at : {X Y : Type 0} → (X → Y) → Y → List X → ℕ → Y
@@ -78,14 +84,20 @@ pub put_at : {X : Type 0} (f : ℕ → X) (k : ℕ) (x : X) → put f k x k ≡ 
 unfolding put
 put_at f k x = grind (arith, nat_tests)
 
-abbrev pub Queue : Type 0
-Queue = VecDeque Row Global
+-- the other values
+pub put_other : {X : Type 0} (f : ℕ → X) (k : ℕ) (x : X) (j : ℕ) → j ≢ k → put f k x j ≡ f j
+unfolding put
+put_other f k x j n = grind (arith, nat_tests)
 
 pub queue-set : (a b : Channels) (c : ℕ) (q : Queue) → b.queues.items ≡ set a.queues.items c q → c < vec_len a.queues → queue b ≡ put (queue a) c q.items
 unfolding queue
 queue-set a b c q e l =
     let lt : c < length a.queues.items = omega (arith, a.queues.ok.0) in
     ap (λ (qs : List Queue). at (λ (x : Queue). x.items) [] qs) e ∙ table-set (λ (x : Queue). x.items) [] a.queues.items c q lt
+
+-- the channel whose queue was changed
+pub queue-at : (a b : Channels) (c : ℕ) (q : Queue) → b.queues.items ≡ set a.queues.items c q → c < vec_len a.queues → queue b c ≡ q.items
+queue-at a b c q e l = ap (λ (f : ℕ → List Row). f c) (queue-set a b c q e l) ∙ put_at (queue a) c q.items
 
 pub queue-item : (a : Channels) (c : ℕ) (q : Queue) → c < vec_len a.queues → q ≡ get_or a.queues.items c q → queue a c ≡ q.items
 unfolding queue
@@ -117,3 +129,87 @@ is_nil-length (x ∷ xs) n e = grind (arith, nat_tests)
 -- whether a channel that holds the items of a queue is empty
 pub queue-nil : (a : Channels) (c : ℕ) (q : Queue) (b : Bool) → c < vec_len a.queues → q ≡ get_or a.queues.items c q → b ≡ (deque_len q == 0) → is_nil (queue a c) ≡ b
 queue-nil a c q b l e h = rw (queue-item a c q l e) (is_nil-length q.items q.len q.ok.0 ∙ sym h)
+
+-- ROOM
+
+pub room-set : (a b : Channels) (c : ℕ) (q : Queue) → b.queues.items ≡ set a.queues.items c q → c < vec_len a.queues → room b ≡ put (room a) c (deque_capacity q - deque_len q)
+unfolding room
+room-set a b c q e l =
+    let lt : c < length a.queues.items = omega (arith, a.queues.ok.0) in
+    ap (λ (qs : List Queue). at (λ (x : Queue). deque_capacity x - deque_len x) 0 qs) e ∙ table-set (λ (x : Queue). deque_capacity x - deque_len x) 0 a.queues.items c q lt
+
+pub room-item : (a : Channels) (c : ℕ) (q : Queue) → c < vec_len a.queues → q ≡ get_or a.queues.items c q → room a c ≡ deque_capacity q - deque_len q
+unfolding room
+room-item a c q l e =
+    let lt : c < length a.queues.items = omega (arith, a.queues.ok.0) in
+    at-item (λ (x : Queue). deque_capacity x - deque_len x) 0 a.queues.items c q lt e
+
+at-some : {X : Type 0} (f : X → ℕ) (xs : List X) (i : ℕ) → 1 ≤ at f 0 xs i → i < length xs
+at-some f [] i h = absurd (omega (arith, h))
+at-some f (x ∷ xs) zero h = omega arith
+at-some f (x ∷ xs) (suc i) h = let l : i < length xs = at-some f xs i h in omega arith
+
+-- a channel that has room is there
+pub room-there : (a : Channels) (c : ℕ) → 1 ≤ room a c → c < vec_len a.queues
+unfolding room
+room-there a c h =
+    let l : c < length a.queues.items = at-some (λ (x : Queue). deque_capacity x - deque_len x) a.queues.items c h in
+    omega (arith, a.queues.ok.0)
+
+-- one number changed in a table of numbers by at most n
+put-le : (f : ℕ → ℕ) (k v n : ℕ) → f k ≤ v + n → (j : ℕ) → f j ≤ put f k v j + n
+unfolding put
+put-le f k v n l j = near (eqb j k) (λ e. ap f (same j k e))
+  where
+    same : (j k : ℕ) → eqb j k ≡ true → j ≡ k
+    same j k e = grind (arith, nat_tests)
+    near : (b : Bool) → (b ≡ true → f j ≡ f k) → f j ≤ cond b v (f j) + n
+    near true e = let is : f j ≡ f k = e refl in omega arith
+    near false e = omega arith
+
+-- the room of a channel whose queue was changed
+pub room-at : (a b : Channels) (c : ℕ) (q : Queue) → b.queues.items ≡ set a.queues.items c q → c < vec_len a.queues → room b c ≡ deque_capacity q - deque_len q
+room-at a b c q e l = ap (λ (f : ℕ → ℕ). f c) (room-set a b c q e l) ∙ put_at (room a) c (deque_capacity q - deque_len q)
+
+-- a channel whose queue has lost at most n of its room
+pub room-changed : (a b : Channels) (c : ℕ) (q : Queue) (n : ℕ) → b.queues.items ≡ set a.queues.items c q → c < vec_len a.queues → room a c ≤ (deque_capacity q - deque_len q) + n → (j : ℕ) → room a j ≤ room b j + n
+room-changed a b c q n e l le j = subst (λ (f : ℕ → ℕ). room a j ≤ f j + n) (sym (room-set a b c q e l)) (put-le (room a) c (deque_capacity q - deque_len q) n le j)
+
+-- a channel whose queue has lost none of its room
+pub room-kept : (a b : Channels) (c : ℕ) (q : Queue) → b.queues.items ≡ set a.queues.items c q → c < vec_len a.queues → room a c ≤ deque_capacity q - deque_len q → (j : ℕ) → room a j ≤ room b j
+room-kept a b c q e l le j = let same : room a j ≤ room b j + 0 = room-changed a b c q 0 e l (omega arith) j in omega arith
+
+-- a channel whose queue was given room
+pub room-made : {E : Type 0} (a b : Channels) (c : ℕ) (q : Queue) (more : ℕ) (r : Result ⊤ E) → b.queues.items ≡ set a.queues.items c q → c < vec_len a.queues → OnOk r (deque_len q + more ≤ deque_capacity q) → OnOk r (more ≤ room b c)
+room-made a b c q more (Ok _) e l h = let is : room b c ≡ deque_capacity q - deque_len q = room-at a b c q e l in omega arith
+room-made a b c q more (Err _) e l h = h
+
+-- WITHIN A CONFIGURATION
+
+cond-within : (k : Shape) (b : Bool) (xs ys : List Row) → EachWithin k xs → EachWithin k ys → EachWithin k (cond b xs ys)
+cond-within k true xs ys p q = p
+cond-within k false xs ys p q = q
+
+pub within-set : (k : Shape) (xs : List Queue) (c : ℕ) (q : Queue) → c < length xs → AreWithin k (queues_of xs) → EachWithin k q.items → AreWithin k (queues_of (set xs c q))
+within-set k xs c q l h p j =
+    subst (EachWithin k) (sym (at-set (λ (x : Queue). x.items) [] xs c q j l)) (cond-within k (eqb j c) q.items (queues_of xs j) p (h j))
+
+pub within-item : (k : Shape) (xs : List Queue) (c : ℕ) (q : Queue) → c < length xs → q ≡ get_or xs c q → AreWithin k (queues_of xs) → EachWithin k q.items
+within-item k xs c q l e h = subst (EachWithin k) (at-item (λ (x : Queue). x.items) [] xs c q l e) (h c)
+
+pub within-append : (k : Shape) (xs : List Row) (m : Row) → EachWithin k xs → IsWithin k m → EachWithin k (xs ++ m ∷ [])
+within-append k [] m h p = (p, tt)
+within-append k (x ∷ xs) m h p = (h.0, within-append k xs m h.1 p)
+
+pub within-rest : (k : Shape) (xs : List Row) → EachWithin k xs → EachWithin k (drop 1 xs)
+within-rest k [] h = tt
+within-rest k (x ∷ xs) h = h.1
+
+pub within-first : (k : Shape) (xs : List Row) (r : Option (Bor Row)) → IsItemAt xs 0 r → EachWithin k xs → IfSome r (λ b. IsWithin k b.now)
+within-first k xs None h p = tt
+within-first k [] (Some b) h p = absurd (let l : 0 < length {A = Row} [] = h.3.0 in omega arith)
+within-first k (x ∷ xs) (Some b) h p = subst (IsWithin k) (sym h.1) p.0
+
+-- a message of those that the engine sends
+pub outward-at : (k : Shape) (xs : List Row) (i : ℕ) (m : Row) → All (IsOutward k) xs → i < length xs → m ≡ get_or xs i m → IsWithin k m
+outward-at k xs i m h l e = subst (IsWithin k) (sym e) (h i m l).within

@@ -1,29 +1,25 @@
 -- What each event does: a row a case. An event without a row isn't enabled, and changes nothing.
--- The rows of cached operations aren't built yet: they have none.
-use Rattle.std.specs.Prelude.{ℕ, ◌+◌, List, [], ◌∷◌, ◌++◌, Bool, true, false, ◌&&◌, Option, Some, None, is_none, nat_lt, ◌==◌, if◌then◌else◌, slice_get, drop}
-use Rattle.bk_base.specs.Places.{Shape, block_start}
+use Rattle.std.specs.Prelude.{ℕ, List, [], ◌∷◌, ◌++◌, Bool, true, false, ◌&&◌, Option, Some, None, is_none, nat_lt, ◌==◌, if◌then◌else◌, slice_get, drop}
+use Rattle.std.specs.Option.{option_to_list}
+use Rattle.bk_base.specs.Places.{Shape, group_of}
 use Rattle.bk_base.specs.Tables.{put}
 use Rattle.bk_base.specs.declared.op.Op.{Op}
-use Rattle.bk_base.specs.declared.op.Op.TheVariants as ops
 use Rattle.bk_isa.specs.declared.form.Form.{Form}
 use Rattle.bk_isa.specs.declared.form.Form.TheVariants.{Wfq}
 use Rattle.bk_msg.specs.declared.row.Row.{Row}
-use Rattle.bk_msg.specs.declared.row.Row.TheVariants as rows
 use Rattle.bk_msg.specs.declared.row.Network.TheVariants as networks
 use Rattle.bk_msg.specs.declared.row.Network.{Network}
-use Rattle.bk_msg.specs.declared.row.TheConstants.{ENGINE, MEMORY}
 use Rattle.bk_msg.specs.Networks.{network_of, address_of, receiver_of}
+use Rattle.bk_lce.specs.CacheTable as table
+use Rattle.bk_lce.specs.CacheTable.{Taken}
 use Rattle.bk_engine.specs.declared.parts.Choice.{Choice}
-use Rattle.bk_engine.specs.declared.stop.Effect.{Effect}
-use Rattle.bk_engine.specs.declared.stop.Effect.TheVariants.{Inside, Sends, Pops}
-use Rattle.bk_engine.specs.Step.{head_number, group_of, stop_of, core_after, pending_after, effect_of}
+use Rattle.bk_engine.specs.Heads.{head_number}
+use Rattle.bk_engine.specs.Step.{Outcome, runs, runs_to}
 use Rattle.bk_system.specs.declared.event.Event.{Event}
 use Rattle.bk_system.specs.declared.event.Event.TheVariants.{Issue, Command, Fill, Memory, Engine}
 use Rattle.bk_system.specs.declared.event.Group.{Group}
-use Rattle.bk_system.specs.declared.event.Completion.{Completion}
-use Rattle.bk_system.specs.declared.event.Access.{Access}
-use Rattle.bk_system.specs.declared.event.Access.TheVariants.{Reads, Writes, Nothing}
-use Rattle.bk_system.specs.State.{State, InProgress}
+use Rattle.bk_system.specs.Memory.{memory_after, answer_to}
+use Rattle.bk_system.specs.State.{State}
 
 -- what an event leaves, and the messages that it sends, in order
 pub record Happening : Type 0 where
@@ -33,87 +29,105 @@ pub record Happening : Type 0 where
 abbrev pub first : List Row → Option Row
 first ms = slice_get ms 0
 
--- Issue: an idle cache begins an operation, and asks the engine. An uncached operation has way 0.
+-- CHANNELS
 
--- the request that an operation makes
-abbrev pub request_for : ℕ → Op → Option Row
-request_for c (ops.UcLoad addr) = Some (rows.UcRd c ENGINE addr)
-request_for c (ops.UcStore addr value) = Some (rows.UcWr c ENGINE addr value)
-request_for c op = None
+-- a message at the end of the channel of a number, where it is of this network
+abbrev pub added_if : Bool → ℕ → Row → (ℕ → List Row) → ℕ → List Row
+added_if here c m channel = if here then put channel c (channel c ++ m ∷ []) else channel
 
--- the request of an Issue that is enabled: the cache and the way are in range, and the cache is idle
-abbrev pub issue_message : Shape → State → ℕ → Op → ℕ → Option Row
-issue_message k s c op way = if nat_lt c k.caches && nat_lt way k.ways && is_none (s.busy c) then request_for c op else None
+abbrev pub is_request : Network → Bool
+is_request networks.Request = true
+is_request network = false
 
-abbrev pub issued : State → ℕ → Op → Option Row → Option Happening
-issued s c op None = None
-issued s c op (Some m) = Some (record {
+abbrev pub is_response : Network → Bool
+is_response networks.Response = true
+is_response network = false
+
+abbrev pub is_fill : Network → Bool
+is_fill networks.Fill = true
+is_fill network = false
+
+abbrev pub is_command : Network → Bool
+is_command networks.Command = true
+is_command network = false
+
+abbrev pub is_memout : Network → Bool
+is_memout networks.Memout = true
+is_memout network = false
+
+-- ISSUE, COMMAND AND FILL: a row of a cache's table
+
+-- what cache c sends goes to the end of its channel of the message's network
+abbrev pub requests_with : ℕ → Option Row → (ℕ → List Row) → ℕ → List Row
+requests_with c None channel = channel
+requests_with c (Some m) channel = added_if (is_request (network_of m)) c m channel
+
+abbrev pub responses_with : ℕ → Option Row → (ℕ → List Row) → ℕ → List Row
+responses_with c None channel = channel
+responses_with c (Some m) channel = added_if (is_response (network_of m)) c m channel
+
+-- a fill goes to the channel of its receiver from cache c
+abbrev pub fills_with : ℕ → Option Row → (ℕ → ℕ → List Row) → ℕ → ℕ → List Row
+fills_with c None channel = channel
+fills_with c (Some m) channel = if is_fill (network_of m) then put channel (receiver_of m) (put (channel (receiver_of m)) c (channel (receiver_of m) c ++ m ∷ [])) else channel
+
+abbrev pub with_taken : State → ℕ → Taken → Happening
+with_taken s c taken = record {
   state = record s {
-    busy = put s.busy c (Some (record { op = op; way = 0 }));
-    request = put s.request c (s.request c ++ m ∷ []);
+    caches = put s.caches c taken.state;
+    request = requests_with c taken.sent s.request;
+    response = responses_with c taken.sent s.response;
+    fill = fills_with c taken.sent s.fill;
+    history = s.history ++ option_to_list taken.done;
   };
-  sent = m ∷ [];
+  sent = option_to_list taken.sent;
+}
+
+abbrev pub takes : State → ℕ → Option Taken → Option Happening
+takes s c None = None
+takes s c (Some taken) = Some (with_taken s c taken)
+
+-- a cache that is idle is given an operation; the cache and the way are of the configuration
+abbrev pub issue_taken : Shape → State → ℕ → Op → ℕ → Option Taken
+issue_taken k s c op way = if nat_lt c k.caches && nat_lt way k.ways then table.issue k (s.caches c) c op way else None
+
+-- the head of a cache's command channel
+abbrev pub command_of : Shape → State → ℕ → Option Row → Option Taken
+command_of k s c None = None
+command_of k s c (Some m) = table.command k (s.caches c) c m
+
+abbrev pub command_taken : Shape → State → ℕ → Option Taken
+command_taken k s c = if nat_lt c k.caches then command_of k s c (first (s.command c)) else None
+
+abbrev pub without_command : State → ℕ → State
+without_command s c = record s { command = put s.command c (drop 1 (s.command c)) }
+
+-- the head of the fill channel to a cache from another
+abbrev pub fill_of : Shape → State → ℕ → Option Row → Option Taken
+fill_of k s to None = None
+fill_of k s to (Some m) = table.fill k (s.caches to) to m
+
+abbrev pub fill_taken : Shape → State → ℕ → ℕ → Option Taken
+fill_taken k s to from = if nat_lt to k.caches && nat_lt from k.caches then fill_of k s to (first (s.fill to from)) else None
+
+abbrev pub without_fill : State → ℕ → ℕ → State
+without_fill s to from = record s { fill = put s.fill to (put (s.fill to) from (drop 1 (s.fill to from))) }
+
+-- MEMORY: the head of its channel is done
+
+abbrev pub accessed : State → Option Row → Option Happening
+accessed s None = None
+accessed s (Some m) = Some (record {
+  state = record s { memout = drop 1 s.memout; memory = memory_after s.memory m; memin = s.memin ++ option_to_list (answer_to s.memory m) };
+  sent = option_to_list (answer_to s.memory m);
 })
 
--- Command: the head of a cache's command channel is taken off, where it has a row.
-
--- the answer to an operation, where the message answers that operation and address
-abbrev pub answer_to : Op → Row → Option ℕ
-answer_to (ops.UcLoad addr) (rows.UcBlk _ _ at word) = if at == addr then Some word else None
-answer_to (ops.UcStore addr value) (rows.UcDone _ _ at) = if at == addr then Some 0 else None
-answer_to op m = None
-
--- what a cache does where it takes a message: the entry of the history, and CohAck with the message's block
-abbrev pub completion_by : ℕ → Op → Row → Option ℕ → Option Completion
-completion_by c op m None = None
-completion_by c op m (Some answer) = Some (record {
-  done = record { cache = c; op = op; answer = answer };
-  acknowledgement = rows.CohAck c ENGINE (block_start (address_of m));
-})
-
-abbrev pub completion_of : ℕ → Option InProgress → Option Row → Option Completion
-completion_of c (Some busy) (Some m) = completion_by c busy.op m (answer_to busy.op m)
-completion_of c busy m = None
-
-abbrev pub command_completion : Shape → State → ℕ → Option Completion
-command_completion k s c = if nat_lt c k.caches then completion_of c (s.busy c) (first (s.command c)) else None
-
-abbrev pub completed : State → ℕ → Option Completion → Option Happening
-completed s c None = None
-completed s c (Some completion) = Some (record {
-  state = record s {
-    command = put s.command c (drop 1 (s.command c));
-    busy = put s.busy c None;
-    history = s.history ++ completion.done ∷ [];
-    response = put s.response c (s.response c ++ completion.acknowledgement ∷ []);
-  };
-  sent = completion.acknowledgement ∷ [];
-})
-
--- Memory: the head of its channel is done. Read answers the block's words.
-
--- the eight words of a block
-abbrev pub words_from : (ℕ → ℕ) → ℕ → List ℕ
-words_from memory a = memory a ∷ memory (a + 8) ∷ memory (a + 16) ∷ memory (a + 24) ∷ memory (a + 32) ∷ memory (a + 40) ∷ memory (a + 48) ∷ memory (a + 56) ∷ []
-
--- what the memory does with a message; writing a whole block isn't built yet
-abbrev pub access_of : Option Row → Access
-access_of (Some (rows.Read _ _ addr)) = Reads addr
-access_of (Some (rows.WriteWord _ _ addr word)) = Writes addr word
-access_of m = Nothing
-
-abbrev pub accessed : State → Access → Option Happening
-accessed s (Reads addr) =
-    let m = rows.Block MEMORY ENGINE addr (words_from s.memory addr) in
-    Some (record { state = record s { memout = drop 1 s.memout; memin = s.memin ++ m ∷ [] }; sent = m ∷ [] })
-accessed s (Writes addr word) = Some (record { state = record s { memout = drop 1 s.memout; memory = put s.memory addr word }; sent = [] })
-accessed s Nothing = None
-
--- Engine: one instruction, where it has no reason not to run.
+-- ENGINE: one instruction, where it has no reason not to run
 
 -- the head that a choice offers to `wfq`, of the responses, the memory's answers and the requests
 abbrev pub offered_of : (ℕ → List Row) → List Row → (ℕ → List Row) → Choice → Option Row
-offered_of response memin request choice = if choice.class == 1 then first (response choice.source)
+offered_of response memin request choice =
+    if choice.class == 1 then first (response choice.source)
     else if choice.class == 2 then (if choice.source == 0 then first memin else None)
     else if choice.class == 3 then first (request choice.source)
     else None
@@ -129,61 +143,60 @@ is_wait _ = false
 abbrev pub is_choice : Option Form → Choice → Bool
 is_choice form choice = if is_wait form then true else choice.class == 0 && choice.source == 0
 
--- a message of the engine goes to the end of its channel
-abbrev pub commands_with : Network → (ℕ → List Row) → Row → ℕ → List Row
-commands_with networks.Command command m = put command (receiver_of m) (command (receiver_of m) ++ m ∷ [])
-commands_with network command m = command
+-- what the engine sends goes to the ends of its channels, one message after the other
+abbrev pub commands_with : List Row → (ℕ → List Row) → ℕ → List Row
+commands_with [] channel = channel
+commands_with (m ∷ ms) channel = commands_with ms (added_if (is_command (network_of m)) (receiver_of m) m channel)
 
-abbrev pub memout_with : Network → List Row → Row → List Row
-memout_with networks.Memout memout m = memout ++ m ∷ []
-memout_with network memout m = memout
-
--- the groups, and that of a message where its number as a head is the one
-abbrev pub groups_with : Shape → List Group → ℕ → ℕ → Option Row → List Group
-groups_with k groups number source None = groups
-groups_with k groups number source (Some m) = if head_number m == number then groups ++ record { cache = source; group = group_of k (address_of m) } ∷ [] else groups
-
--- a channel of a class without its head, where the choice is of that class
-abbrev pub heads_left : ℕ → Choice → (ℕ → List Row) → ℕ → List Row
-heads_left class choice channel = if choice.class == class then put channel choice.source (drop 1 (channel choice.source)) else channel
-
-abbrev pub memin_left : Choice → List Row → List Row
-memin_left choice memin = if choice.class == 2 then drop 1 memin else memin
+abbrev pub memout_with : List Row → List Row → List Row
+memout_with [] channel = channel
+memout_with (m ∷ ms) channel = memout_with ms (if is_memout (network_of m) then channel ++ m ∷ [] else channel)
 
 -- A request that is popped (head number 1) is taken, and a CohAck that is popped (3) settles one.
-abbrev pub with_effect : Shape → State → Effect → Happening
-with_effect k s Inside = record { state = s; sent = [] }
-with_effect k s (Sends m) = record {
-  state = record s { command = commands_with (network_of m) s.command m; memout = memout_with (network_of m) s.memout m };
-  sent = m ∷ [];
-}
-with_effect k s (Pops choice) = record {
+abbrev pub groups_of : Shape → ℕ → ℕ → Option Row → List Group
+groups_of k number source None = []
+groups_of k number source (Some m) = if head_number m == number then record { cache = source; group = group_of k (address_of m) } ∷ [] else []
+
+-- the groups of a popped head
+abbrev pub popped_groups : Shape → State → ℕ → Option Choice → List Group
+popped_groups k s number None = []
+popped_groups k s number (Some choice) = groups_of k number choice.source (offered s choice)
+
+-- the channels of a class without a popped head
+abbrev pub heads_left : ℕ → Option Choice → (ℕ → List Row) → ℕ → List Row
+heads_left class None channel = channel
+heads_left class (Some choice) channel = if choice.class == class then put channel choice.source (drop 1 (channel choice.source)) else channel
+
+abbrev pub memin_left : Option Choice → List Row → List Row
+memin_left None memin = memin
+memin_left (Some choice) memin = if choice.class == 2 then drop 1 memin else memin
+
+abbrev pub with_outcome : Shape → State → Outcome → Happening
+with_outcome k s outcome = record {
   state = record s {
-    taken = groups_with k s.taken 1 choice.source (offered s choice);
-    settled = groups_with k s.settled 3 choice.source (offered s choice);
-    response = heads_left 1 choice s.response;
-    memin = memin_left choice s.memin;
-    request = heads_left 3 choice s.request;
+    engine = outcome.engine;
+    command = commands_with outcome.sent s.command;
+    memout = memout_with outcome.sent s.memout;
+    taken = s.taken ++ popped_groups k s 1 outcome.popped;
+    settled = s.settled ++ popped_groups k s 3 outcome.popped;
+    response = heads_left 1 outcome.popped s.response;
+    memin = memin_left outcome.popped s.memin;
+    request = heads_left 3 outcome.popped s.request;
   };
-  sent = [];
+  sent = outcome.sent;
 }
 
 abbrev pub can_run : Shape → List Form → State → Choice → Bool
-can_run k program s choice = nat_lt choice.source k.caches && is_choice (slice_get program s.engine.place) choice && is_none (stop_of s.engine program choice (offered s choice))
+can_run k program s choice =
+    nat_lt choice.source k.caches && is_choice (slice_get program s.engine.core.place) choice && runs k s.engine program choice (offered s choice)
 
 abbrev pub engine_row : Shape → List Form → State → Choice → Option Happening
-engine_row k program s choice =
-    if can_run k program s choice
-    then Some (with_effect k (record s {
-      engine = core_after k s.engine s.pending program choice (offered s choice);
-      pending = pending_after k s.engine s.pending program;
-    }) (effect_of s.engine program))
-    else None
+engine_row k program s choice = if can_run k program s choice then Some (with_outcome k s (runs_to k s.engine program choice (offered s choice))) else None
 
 -- The row of an event, if it has one.
 abbrev pub row : Shape → List Form → State → Event → Option Happening
-row k program s (Issue c op way) = issued s c op (issue_message k s c op way)
-row k program s (Command c) = completed s c (command_completion k s c)
-row k program s (Fill to from) = None
-row k program s Memory = accessed s (access_of (first s.memout))
+row k program s (Issue c op way) = takes s c (issue_taken k s c op way)
+row k program s (Command c) = takes (without_command s c) c (command_taken k s c)
+row k program s (Fill to from) = takes (without_fill s to from) to (fill_taken k s to from)
+row k program s Memory = accessed s (first s.memout)
 row k program s (Engine choice) = engine_row k program s choice

@@ -5,7 +5,7 @@ use Rattle.bk_base.specs.declared.op.Op.{Op}
 use Rattle.bk_base.specs.declared.op.Done.{Done}
 use Rattle.bk_isa.specs.declared.form.Form.{Form}
 use Rattle.bk_isa.specs.declared.form.Form.TheVariants.{Wfq}
-use Rattle.bk_engine.specs.Step.{names_class}
+use Rattle.bk_engine.specs.Heads.{names_class}
 use Rattle.bk_trace.specs.Traces.{operations_of}
 use Rattle.bk_system.specs.declared.event.Event.{Event}
 use Rattle.bk_system.specs.declared.event.Event.TheVariants.{Issue}
@@ -49,7 +49,7 @@ is_quiet k program s =
     && all_below k.caches (λ to. all_below k.caches (λ from. is_nil (s.fill to from)))
     && is_nil s.memout
     && is_nil s.memin
-    && is_wait (slice_get program s.engine.place)
+    && is_wait (slice_get program s.engine.core.place)
 
 abbrev pub names_requests : Option Form → Bool
 names_requests (Some (Wfq classes)) = names_class classes 3
@@ -59,9 +59,9 @@ names_requests _ = false
 abbrev pub is_rested : Shape → List Form → State → Bool
 is_rested k program s =
     is_quiet k program s
-    && names_requests (slice_get program s.engine.place)
-    && all_below k.sets (λ g. not (s.pending g))
-    && all_below k.caches (λ c. is_none (s.busy c))
+    && names_requests (slice_get program s.engine.core.place)
+    && all_below k.sets (λ g. not (s.engine.directory.pending g))
+    && all_below k.caches (λ c. is_none (s.caches c).busy)
 
 -- the operations that a list of events has a cache issue, enabled or not
 abbrev pub issued_by : ℕ → List Event → List Op

@@ -20,7 +20,8 @@ pub(crate) fn has_way(config: Config, way: u8) -> bool
 
 /// How many caches there are.
 pub(crate) fn cache_count(config: Config) -> u8
-    ensures { result ≡ config.caches }
+    ensures value { result ≡ config.caches }
+    ensures few { result ≤ 8 }
 {
     config.caches
 }

@@ -1,10 +1,7 @@
-ghost use Rattle.std.specs.Prelude.{◌≡◌, None, IfOk, vec_len};
-ghost use Rattle.bk_system.specs.Kept.{busy_of};
-
-use bk_base::{Addr, Done, Op};
+use arrayvec::ArrayVec;
+use bk_base::Op;
 use bk_engine::Choice;
-use bk_msg::Row;
-use std::alloc::{AllocError, Global};
+use bk_msg::Message;
 
 /// One local step of one agent.
 #[derive(Clone, Copy, Debug, PartialEq, Eq)]
@@ -28,42 +25,11 @@ pub struct Group {
     pub group: u8,
 }
 
-/// What a cache does where a message completes its operation.
-#[derive(Clone, Copy, Debug, PartialEq, Eq)]
-pub struct Completion {
-    /// The entry of the history.
-    pub done: Done,
-    /// The `CohAck` that the cache sends.
-    pub acknowledgement: Row,
-}
-
-/// What the memory does with the head of its channel.
-#[derive(Clone, Copy, Debug, PartialEq, Eq)]
-pub enum Access {
-    /// It answers the words of the block at this address.
-    Reads(Addr),
-    /// It writes a word.
-    Writes(Addr, u64),
-    Nothing,
-}
-
 /// What an event did.
-#[derive(Clone, Copy, Debug, PartialEq, Eq)]
+#[derive(Debug, Drop)]
 pub enum Stepped {
     /// It wasn't enabled, and changed nothing.
     Disabled,
-    /// It was enabled, and sent this message, if any.
-    Ran(Option<Row>),
-}
-
-/// No operation in progress, for each of so many caches.
-pub(crate) fn idle(alloc: Global, count: u8) -> Result<Vec<Option<Op>>, AllocError>
-    ensures count { IfOk result (λ v. vec_len v ≡ count) }
-    ensures none { IfOk result (λ v. busy_of v.items ≡ λ c. None) }
-{
-    let mut busy = Vec::new(alloc);
-    for _ in 0..count {
-        busy.push(None)?;
-    }
-    Ok(busy)
+    /// It was enabled, and sent these messages, in order.
+    Ran(ArrayVec<Message, 16>),
 }

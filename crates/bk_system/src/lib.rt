@@ -2,24 +2,15 @@
 #![tactic(auto)]
 
 mod bounds;
+mod caches;
 mod channels;
-mod complete;
-mod counts;
-mod engine_channels;
 mod event;
-mod greedy;
+mod hardware;
+mod heads;
 mod memory;
-mod reports;
-mod runs;
-mod system;
-mod text;
-mod uncached;
+mod sending;
+mod steps;
 
-pub use counts::Counts;
-pub use event::{Access, Completion, Event, Group, Stepped};
-pub use reports::report;
-pub use runs::{RunEnd, SerialFault, budget, serial};
-pub use system::System;
-
-#[cfg(test)]
-mod tests;
+pub use event::{Event, Group, Stepped};
+pub use hardware::Hardware;
+pub use memory::MainMemory;

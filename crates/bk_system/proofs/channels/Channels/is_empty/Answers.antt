@@ -8,12 +8,12 @@ use Rattle.bk_system.proofs.channels.Channels.is_empty.Goals as goal
 
 pub returns-then-not-is_empty : goal.returns-then-not-is_empty
 returns-then-not-is_empty c =
-    let l : c.loop-cache.cache < vec_len c.args.self.now.queues = omega arith in
-    sym (all_below-fails _ c.loop-cache.cache (λ k. is_nil (queue c.args.self.now k)) l
-    (queue-nil c.args.self.now c.loop-cache.cache c.index-queue.result.now c.is_empty.result l c.index-queue.ensures c.is_empty.ensures ∙ c.if-not-is_empty.true))
+    let l : c.loop-channel.channel < vec_len c.args.self.now.queues = omega arith in
+    sym (all_below-fails _ c.loop-channel.channel (λ k. is_nil (queue c.args.self.now k)) l
+    (queue-nil c.args.self.now c.loop-channel.channel c.index-queue.result.now c.is_empty.result l c.index-queue.ensures c.is_empty.ensures ∙ c.if-not-is_empty.true))
 
-pub loop-cache-preserved : goal.loop-cache-preserved
-loop-cache-preserved c =
-    let l : c.loop-cache.cache < vec_len c.args.self.now.queues = omega arith in
-    all_below-more c.loop-cache.cache (λ k. is_nil (queue c.args.self.now k)) c.loop-cache.invariant
-    (queue-nil c.args.self.now c.loop-cache.cache c.index-queue.result.now c.is_empty.result l c.index-queue.ensures c.is_empty.ensures ∙ c.if-not-is_empty.false)
+pub loop-channel-preserved : goal.loop-channel-preserved
+loop-channel-preserved c =
+    let l : c.loop-channel.channel < vec_len c.args.self.now.queues = omega arith in
+    all_below-more c.loop-channel.channel (λ k. is_nil (queue c.args.self.now k)) c.loop-channel.invariant
+    (queue-nil c.args.self.now c.loop-channel.channel c.index-queue.result.now c.is_empty.result l c.index-queue.ensures c.is_empty.ensures ∙ c.if-not-is_empty.false)

@@ -1,5 +1,6 @@
 use Rattle.std.proofs.Common.{[], arith}
-use Rattle.bk_system.proofs.Queues.{at-more, queue-empty, Queue}
+use Rattle.bk_system.specs.Queues.{Queue}
+use Rattle.bk_system.proofs.Queues.{at-more, queue-empty}
 use Rattle.bk_system.proofs.channels.Channels.make.Goals as goal
 
 pub loop-preserved : goal.loop-preserved

@@ -1,0 +1,252 @@
+ghost use Rattle.std.specs.Prelude.{◌≡◌, ◌<◌, ℕ, List, Option, is_some};
+ghost use Rattle.bk_lce.specs.CacheTable.{Gives, completes, fills, grant_row, granted, wake_row, woken, word_row, written_row, evicted_row, ends};
+ghost use Rattle.bk_lce.specs.Caches.{state_of};
+ghost use Rattle.bk_lce.specs.Calls.{Takes};
+
+use crate::arrays::CacheArrays;
+use crate::issue::stored;
+use crate::line::{Foreign, InProgress, Line, Step};
+use crate::places::holds;
+use bk_base::{Addr, Coh, Done, Op, block_of, group_of, tag_at, word_of};
+use bk_msg::Message;
+
+impl CacheArrays {
+    /// Completes the operation in progress, and settles its request.
+    #[tactic(auto, unfolding(crate::specs::Caches::state_of))]
+    fn completes(&mut self, op: Op, addr: Addr, answer: u64, way: u8) -> Step
+        ensures gives { Takes (completes (state_of self.old) self.old.number op addr answer way) (state_of self.new) result }
+        ensures config { self.new.config ≡ self.old.config }
+        ensures number { self.new.number ≡ self.old.number }
+    {
+        self.busy = None;
+        Step {
+            sent: Some(Message::coh_ack(self.number, addr)),
+            done: Some(Done {
+                cache: self.number,
+                op,
+                answer,
+            }),
+            way,
+        }
+    }
+
+    /// Writes a line, makes its way the most recently used, and completes the operation in progress.
+    fn fills(&mut self, op: Op, addr: Addr, answer: u64, way: u8, line: Line) -> Step
+        requires { way < self.old.config.ways }
+        ensures gives { Takes (fills self.old.config (state_of self.old) self.old.number op addr answer way line) (state_of self.new) result }
+        ensures config { self.new.config ≡ self.old.config }
+        ensures number { self.new.number ≡ self.old.number }
+    {
+        let set = group_of(self.config, addr);
+        self.write_line(set, way, line);
+        self.use_way(set, way);
+        self.completes(op, addr, answer, way)
+    }
+
+    /// `Blk` or `Fill` at the way of the operation in progress: the block is placed.
+    fn grant_row(
+        &mut self,
+        way: u8,
+        state: Coh,
+        addr: Addr,
+        words: [u64; 8],
+        op: Op,
+    ) -> Result<Step, Foreign>
+        requires { way < self.old.config.ways }
+        ensures gives { Gives (grant_row self.old.config (state_of self.old) self.old.number way state addr words op) (state_of self.old) (state_of self.new) result }
+        ensures config { self.new.config ≡ self.old.config }
+        ensures number { self.new.number ≡ self.old.number }
+    {
+        match op {
+            Op::Load(at) => {
+                if block_of(at) != block_of(addr) {
+                    return Err(Foreign);
+                }
+                let tag = tag_at(self.config, at);
+                let answer = words[word_of(at) as usize];
+                Ok(self.fills(op, at, answer, way, Line { tag, state, words }))
+            }
+            Op::Store(at, value) => {
+                if block_of(at) != block_of(addr) || !state.writable() {
+                    return Err(Foreign);
+                }
+                let tag = tag_at(self.config, at);
+                let line = stored(Line { tag, state, words }, at, value);
+                Ok(self.fills(op, at, 0, way, line))
+            }
+            _ => Err(Foreign),
+        }
+    }
+
+    /// `Blk` or `Fill`.
+    pub(crate) fn granted(
+        &mut self,
+        way: u8,
+        state: Coh,
+        addr: Addr,
+        words: [u64; 8],
+        busy: Option<InProgress>,
+    ) -> Result<Step, Foreign>
+        requires { way < self.old.config.ways }
+        ensures gives { Gives (granted self.old.config (state_of self.old) self.old.number way state addr words busy) (state_of self.old) (state_of self.new) result }
+        ensures config { self.new.config ≡ self.old.config }
+        ensures number { self.new.number ≡ self.old.number }
+    {
+        match busy {
+            None => Err(Foreign),
+            Some(busy) => {
+                if busy.way == way {
+                    self.grant_row(way, state, addr, words, busy.op)
+                } else {
+                    Err(Foreign)
+                }
+            }
+        }
+    }
+
+    /// `StWake` at the way of the operation in progress: the word is stored into the copy that stands there.
+    fn wake_row(&mut self, way: u8, addr: Addr, op: Op) -> Result<Step, Foreign>
+        requires { way < self.old.config.ways }
+        ensures gives { Gives (wake_row self.old.config (state_of self.old) self.old.number way addr op) (state_of self.old) (state_of self.new) result }
+        ensures config { self.new.config ≡ self.old.config }
+        ensures number { self.new.number ≡ self.old.number }
+    {
+        match op {
+            Op::Store(at, value) => {
+                let line = self.line_at(at, way);
+                if block_of(at) != block_of(addr) || !holds(&line, tag_at(self.config, at)) {
+                    return Err(Foreign);
+                }
+                Ok(self.fills(op, at, 0, way, stored(line, at, value)))
+            }
+            _ => Err(Foreign),
+        }
+    }
+
+    /// `StWake`.
+    pub(crate) fn woken(
+        &mut self,
+        way: u8,
+        addr: Addr,
+        busy: Option<InProgress>,
+    ) -> Result<Step, Foreign>
+        requires { way < self.old.config.ways }
+        ensures gives { Gives (woken self.old.config (state_of self.old) self.old.number way addr busy) (state_of self.old) (state_of self.new) result }
+        ensures config { self.new.config ≡ self.old.config }
+        ensures number { self.new.number ≡ self.old.number }
+    {
+        match busy {
+            None => Err(Foreign),
+            Some(busy) => {
+                if busy.way == way {
+                    self.wake_row(way, addr, busy.op)
+                } else {
+                    Err(Foreign)
+                }
+            }
+        }
+    }
+
+    /// `UcBlk`, for an operation in progress.
+    fn word_row(&mut self, way: u8, addr: Addr, word: u64, op: Op) -> Result<Step, Foreign>
+        ensures gives { Gives (word_row (state_of self.old) self.old.number way addr word op) (state_of self.old) (state_of self.new) result }
+        ensures config { self.new.config ≡ self.old.config }
+        ensures number { self.new.number ≡ self.old.number }
+    {
+        match op {
+            Op::UcLoad(at) => {
+                if at.value() == addr.value() {
+                    Ok(self.completes(op, at, word, way))
+                } else {
+                    Err(Foreign)
+                }
+            }
+            _ => Err(Foreign),
+        }
+    }
+
+    /// `UcDone`, for an operation in progress.
+    fn written_row(&mut self, way: u8, addr: Addr, op: Op) -> Result<Step, Foreign>
+        ensures gives { Gives (written_row (state_of self.old) self.old.number way addr op) (state_of self.old) (state_of self.new) result }
+        ensures config { self.new.config ≡ self.old.config }
+        ensures number { self.new.number ≡ self.old.number }
+    {
+        match op {
+            Op::UcStore(at, _) => {
+                if at.value() == addr.value() {
+                    Ok(self.completes(op, at, 0, way))
+                } else {
+                    Err(Foreign)
+                }
+            }
+            _ => Err(Foreign),
+        }
+    }
+
+    /// `Done`, for an operation in progress.
+    fn evicted_row(&mut self, way: u8, addr: Addr, op: Op) -> Result<Step, Foreign>
+        ensures gives { Gives (evicted_row (state_of self.old) self.old.number way addr op) (state_of self.old) (state_of self.new) result }
+        ensures config { self.new.config ≡ self.old.config }
+        ensures number { self.new.number ≡ self.old.number }
+    {
+        match op {
+            Op::Evict(at) => {
+                if block_of(at) == block_of(addr) {
+                    Ok(self.completes(op, at, 0, way))
+                } else {
+                    Err(Foreign)
+                }
+            }
+            _ => Err(Foreign),
+        }
+    }
+
+    /// `UcBlk`.
+    pub(crate) fn word_comes(
+        &mut self,
+        addr: Addr,
+        word: u64,
+        busy: Option<InProgress>,
+    ) -> Result<Step, Foreign>
+        ensures gives { Gives (ends busy (λ way op. word_row (state_of self.old) self.old.number way addr word op)) (state_of self.old) (state_of self.new) result }
+        ensures config { self.new.config ≡ self.old.config }
+        ensures number { self.new.number ≡ self.old.number }
+    {
+        match busy {
+            None => Err(Foreign),
+            Some(busy) => self.word_row(busy.way, addr, word, busy.op),
+        }
+    }
+
+    /// `UcDone`.
+    pub(crate) fn word_is_written(
+        &mut self,
+        addr: Addr,
+        busy: Option<InProgress>,
+    ) -> Result<Step, Foreign>
+        ensures gives { Gives (ends busy (λ way op. written_row (state_of self.old) self.old.number way addr op)) (state_of self.old) (state_of self.new) result }
+        ensures config { self.new.config ≡ self.old.config }
+        ensures number { self.new.number ≡ self.old.number }
+    {
+        match busy {
+            None => Err(Foreign),
+            Some(busy) => self.written_row(busy.way, addr, busy.op),
+        }
+    }
+
+    /// `Done`.
+    pub(crate) fn block_is_evicted(
+        &mut self,
+        addr: Addr,
+        busy: Option<InProgress>,
+    ) -> Result<Step, Foreign>
+        ensures gives { Gives (ends busy (λ way op. evicted_row (state_of self.old) self.old.number way addr op)) (state_of self.old) (state_of self.new) result }
+        ensures config { self.new.config ≡ self.old.config }
+        ensures number { self.new.number ≡ self.old.number }
+    {
+        match busy {
+            None => Err(Foreign),
+            Some(busy) => self.evicted_row(busy.way, addr, busy.op),
+        }
+    }
+}

@@ -1,0 +1,146 @@
+ghost use Rattle.std.specs.Prelude.{◌≡◌, ◌<◌, IfSome, Some, None};
+ghost use Rattle.bk_lce.specs.CacheState.{found};
+ghost use Rattle.bk_lce.specs.CacheTable.{asks, hits, stored, load_row, store_hit, store_row, evict_row, issue_row};
+ghost use Rattle.bk_lce.specs.Caches.{state_of};
+ghost use Rattle.bk_lce.specs.Calls.{Takes};
+
+use crate::arrays::CacheArrays;
+use crate::line::{InProgress, Line, Step};
+use bk_base::{Addr, Coh, Done, Op, group_of, word_of};
+use bk_msg::Message;
+
+/// A line after a store of a word.
+pub(crate) fn stored(line: Line, addr: Addr, value: u64) -> Line
+    ensures { result ≡ stored line addr value }
+{
+    let mut words = line.words;
+    words[word_of(addr) as usize] = value;
+    Line {
+        tag: line.tag,
+        state: Coh::M,
+        words,
+    }
+}
+
+impl CacheArrays {
+    /// Begins an operation with a way, and sends its request.
+    #[tactic(auto, unfolding(crate::specs::Caches::state_of))]
+    fn asks(&mut self, op: Op, way: u8, message: Message) -> Step
+        requires { way < self.old.config.ways }
+        ensures gives { Takes (asks (state_of self.old) op way message) (state_of self.new) result }
+        ensures config { self.new.config ≡ self.old.config }
+        ensures number { self.new.number ≡ self.old.number }
+    {
+        self.busy = Some(InProgress { op, way });
+        Step {
+            sent: Some(message),
+            done: None,
+            way,
+        }
+    }
+
+    /// Completes an operation at once.
+    fn hits(&self, op: Op, answer: u64, way: u8) -> Step
+        ensures { Takes (hits (state_of self.now) self.now.number op answer way) (state_of self.now) result }
+    {
+        Step {
+            sent: None,
+            done: Some(Done {
+                cache: self.number,
+                op,
+                answer,
+            }),
+            way,
+        }
+    }
+
+    /// Loads a word of the copy at a way, or asks for the block.
+    fn load_row(&mut self, addr: Addr, way: u8, at: Option<u8>) -> Step
+        requires way { way < self.old.config.ways }
+        requires at { IfSome at (λ w. w < self.old.config.ways) }
+        ensures gives { Takes (load_row self.old.config (state_of self.old) self.old.number addr way at) (state_of self.new) result }
+        ensures config { self.new.config ≡ self.old.config }
+        ensures number { self.new.number ≡ self.old.number }
+    {
+        match at {
+            None => self.asks(Op::Load(addr), way, Message::rd(self.number, way, addr)),
+            Some(at) => {
+                let line = self.line_at(addr, at);
+                let answer = line.words[word_of(addr) as usize];
+                self.use_way(group_of(self.config, addr), at);
+                self.hits(Op::Load(addr), answer, at)
+            }
+        }
+    }
+
+    /// Stores a word into the copy at a way.
+    fn store_hit(&mut self, addr: Addr, value: u64, at: u8) -> Step
+        requires { at < self.old.config.ways }
+        ensures gives { Takes (store_hit self.old.config (state_of self.old) self.old.number addr value at) (state_of self.new) result }
+        ensures config { self.new.config ≡ self.old.config }
+        ensures number { self.new.number ≡ self.old.number }
+    {
+        let set = group_of(self.config, addr);
+        let line = self.line_at(addr, at);
+        self.write_line(set, at, stored(line, addr, value));
+        self.use_way(set, at);
+        self.hits(Op::Store(addr, value), 0, at)
+    }
+
+    /// Stores a word into the copy at a way where it is in `E` or `M`, or asks for the block.
+    fn store_row(&mut self, addr: Addr, value: u64, way: u8, at: Option<u8>) -> Step
+        requires way { way < self.old.config.ways }
+        requires at { IfSome at (λ w. w < self.old.config.ways) }
+        ensures gives { Takes (store_row self.old.config (state_of self.old) self.old.number addr value way at) (state_of self.new) result }
+        ensures config { self.new.config ≡ self.old.config }
+        ensures number { self.new.number ≡ self.old.number }
+    {
+        match at {
+            None => self.asks(
+                Op::Store(addr, value),
+                way,
+                Message::wr(self.number, way, addr),
+            ),
+            Some(at) => {
+                if self.line_at(addr, at).state.writable() {
+                    self.store_hit(addr, value, at)
+                } else {
+                    self.asks(
+                        Op::Store(addr, value),
+                        at,
+                        Message::wr(self.number, at, addr),
+                    )
+                }
+            }
+        }
+    }
+
+    /// Asks for the copy at a way to be given up.
+    fn evict_row(&mut self, addr: Addr, at: Option<u8>) -> Step
+        requires { IfSome at (λ w. w < self.old.config.ways) }
+        ensures gives { Takes (evict_row (state_of self.old) self.old.number addr at) (state_of self.new) result }
+        ensures config { self.new.config ≡ self.old.config }
+        ensures number { self.new.number ≡ self.old.number }
+    {
+        match at {
+            None => self.hits(Op::Evict(addr), 0, 0),
+            Some(at) => self.asks(Op::Evict(addr), at, Message::evict(self.number, at, addr)),
+        }
+    }
+
+    /// What an idle cache does when it is given an operation.
+    pub(crate) fn issue_row(&mut self, op: Op, way: u8) -> Step
+        requires { way < self.old.config.ways }
+        ensures gives { Takes (issue_row self.old.config (state_of self.old) self.old.number op way) (state_of self.new) result }
+        ensures config { self.new.config ≡ self.old.config }
+        ensures number { self.new.number ≡ self.old.number }
+    {
+        match op {
+            Op::Load(addr) => self.load_row(addr, way, self.found(addr)),
+            Op::Store(addr, value) => self.store_row(addr, value, way, self.found(addr)),
+            Op::UcLoad(addr) => self.asks(op, 0, Message::uc_rd(self.number, addr)),
+            Op::UcStore(addr, value) => self.asks(op, 0, Message::uc_wr(self.number, addr, value)),
+            Op::Evict(addr) => self.evict_row(addr, self.found(addr)),
+        }
+    }
+}

@@ -1,0 +1,11 @@
+use Rattle.std.proofs.Common.{◌≡◌, ℕ, vec_len}
+use Rattle.bk_lce.specs.CacheState.{opening}
+use Rattle.bk_system.specs.Kept.{caches_of, AreCaches}
+use Rattle.bk_system.proofs.caches.Caches.make.Given as goal
+
+abbrev pub invariant-loop-cache : goal.invariant-loop-cache
+invariant-loop-cache l = record {
+  count : vec_len l.arrays ≡ l.cache;
+  own : AreCaches l.config l.arrays.items;
+  unused : (c : ℕ) → caches_of l.config l.arrays.items c ≡ opening l.config;
+}

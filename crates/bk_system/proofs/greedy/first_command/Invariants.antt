@@ -1,9 +1,0 @@
-use Rattle.std.proofs.Common.{◌≡◌, None}
-use Rattle.bk_system.specs.declared.event.Event.TheVariants.{Command}
-use Rattle.bk_base.specs.Counting.{first_below}
-use Rattle.bk_system.specs.Greedy.{if_enabled}
-use Rattle.bk_system.specs.Systems.{state_of}
-use Rattle.bk_system.proofs.greedy.first_command.Given as goal
-
-abbrev pub invariant-loop-cache : goal.invariant-loop-cache
-invariant-loop-cache l = first_below l.cache (λ c. if_enabled l.system.config l.program (state_of l.system) (Command c)) ≡ None

@@ -1,8 +1,0 @@
-use Rattle.std.proofs.Common.{◌≡◌, None}
-use Rattle.bk_base.specs.Counting.{first_below}
-use Rattle.bk_system.specs.Greedy.{engine_of}
-use Rattle.bk_system.specs.Systems.{state_of}
-use Rattle.bk_system.proofs.greedy.first_engine.Given as goal
-
-abbrev pub invariant-loop-source : goal.invariant-loop-source
-invariant-loop-source l = first_below l.source (engine_of l.system.config l.program (state_of l.system) l.class) ≡ None

@@ -1,8 +1,0 @@
-use Rattle.std.proofs.Common.{◌≡◌, true}
-use Rattle.std.specs.Prelude.{is_none}
-use Rattle.bk_base.specs.Counting.{all_below}
-use Rattle.bk_system.specs.Kept.{busy_of}
-use Rattle.bk_system.proofs.system.System.all_idle.Given as goal
-
-abbrev pub invariant-loop-cache : goal.invariant-loop-cache
-invariant-loop-cache l = all_below l.cache (λ c. is_none (busy_of l.self.busy.items c)) ≡ true

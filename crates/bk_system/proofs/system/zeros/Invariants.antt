@@ -1,5 +1,0 @@
-use Rattle.std.proofs.Common.{◌≡◌, ℕ, vec_len, get_or}
-use Rattle.bk_system.proofs.system.zeros.Given as goal
-
-abbrev pub invariant-loop : goal.invariant-loop
-invariant-loop l = record { count : vec_len l.counts ≡ l.counter; zero : (k : ℕ) → get_or l.counts.items k 0 ≡ 0 }

@@ -1,0 +1,130 @@
+ghost use Rattle.std.specs.Prelude.{◌≡◌, ◌<◌, ◌≤◌, ◌++◌, IfSome, slice_get, vec_len, vec_capacity};
+ghost use Rattle.std.specs.Option.{option_copied};
+ghost use Rattle.bk_msg.specs.Within.{IsWithin};
+ghost use Rattle.bk_system.specs.Channels.{queue, channel_count};
+ghost use Rattle.bk_system.specs.Runs.{names_requests};
+ghost use Rattle.bk_system.specs.Events.{is_wait, is_choice, offered_of, groups_of, heads_left, memin_left};
+
+use crate::channels::Channels;
+use crate::event::Group;
+use bk_base::{Config, group_of};
+use bk_engine::{Choice, head_number, names_class};
+use bk_isa::{Form, Instr};
+use bk_msg::Message;
+
+/// The classes of heads that `wfq` takes.
+pub(crate) const RESPONSES: u8 = 1;
+
+pub(crate) const MEMORY_ANSWERS: u8 = 2;
+
+pub(crate) const REQUESTS: u8 = 3;
+
+/// The value of a request as a head, and that of a `CohAck`.
+pub(crate) const REQUEST: u8 = 1;
+
+pub(crate) const COH_ACK: u8 = 3;
+
+/// Whether the instruction at a place is a `wfq`.
+pub(crate) fn is_wait(program: &[Instr], place: u32) -> bool
+    ensures { result ≡ is_wait (slice_get program.now place) }
+{
+    match program.get(place as usize) {
+        None => false,
+        Some(instr) => matches!(instr.form(), Form::Wfq { .. }),
+    }
+}
+
+/// Whether the instruction at a place is a `wfq` that names requests.
+pub(crate) fn names_requests(program: &[Instr], place: u32) -> bool
+    ensures { result ≡ names_requests (slice_get program.now place) }
+{
+    match program.get(place as usize) {
+        None => false,
+        Some(instr) => match instr.form() {
+            Form::Wfq { a } => names_class(a, REQUESTS),
+            _ => false,
+        },
+    }
+}
+
+/// Whether the instruction at a place may be run with a choice: at `wfq` any, else class 0 with source 0 alone.
+pub(crate) fn is_choice(program: &[Instr], place: u32, choice: Choice) -> bool
+    ensures { result ≡ is_choice (slice_get program.now place) choice }
+{
+    if is_wait(program, place) {
+        true
+    } else {
+        choice.class == 0 && choice.source == 0
+    }
+}
+
+/// The head that a choice offers to `wfq`.
+pub(crate) fn offered<'a>(
+    responses: &'a Channels,
+    memin: &'a Channels,
+    requests: &'a Channels,
+    choice: Choice,
+) -> Option<&'a Message>
+    requires memin { memin.now.config ≡ responses.now.config }
+    requires requests { requests.now.config ≡ responses.now.config }
+    ensures value { option_copied result ≡ offered_of (queue responses.now) (queue memin.now 0) (queue requests.now) choice }
+    ensures within { IfSome result (λ message. IsWithin responses.now.config message.now) }
+{
+    match choice.class {
+        RESPONSES => responses.head(choice.source),
+        MEMORY_ANSWERS => {
+            if choice.source == 0 {
+                memin.head(0)
+            } else {
+                None
+            }
+        }
+        REQUESTS => requests.head(choice.source),
+        _ => None,
+    }
+}
+
+/// Notes the group of a popped head of a source, where it has this value as a head. Room was made.
+pub(crate) fn note_group(groups: &mut Vec<Group>, config: Config, number: u8, source: u8, head: Option<Message>)
+    requires { vec_len groups.old < vec_capacity groups.old }
+    ensures { groups.new.items ≡ groups.old.items ++ groups_of config number source head }
+{
+    let Some(message) = head else {
+        return;
+    };
+    let row = message.row();
+    if head_number(&row) == number {
+        let group = Group {
+            cache: source,
+            group: group_of(config, row.address()),
+        };
+        match groups.push(group) {
+            Ok(()) => (),
+            Err(_) => unreachable!(),
+        }
+    }
+}
+
+/// Takes the head of a channel off, where the choice is of its class.
+pub(crate) fn take_off(channels: &mut Channels, class: u8, choice: Choice)
+    requires { choice.source < channel_count channels.old }
+    ensures left { queue channels.new ≡ heads_left class (Some choice) (queue channels.old) }
+    ensures count { channel_count channels.new ≡ channel_count channels.old }
+    ensures config { channels.new.config ≡ channels.old.config }
+{
+    if choice.class == class {
+        let _ = channels.pop(choice.source);
+    }
+}
+
+/// Takes the head of the channel from the memory off, where the choice is of its class.
+pub(crate) fn take_answer_off(memin: &mut Channels, choice: Choice)
+    requires { 0 < channel_count memin.old }
+    ensures left { queue memin.new 0 ≡ memin_left (Some choice) (queue memin.old 0) }
+    ensures count { channel_count memin.new ≡ channel_count memin.old }
+    ensures config { memin.new.config ≡ memin.old.config }
+{
+    if choice.class == MEMORY_ANSWERS {
+        let _ = memin.pop(0);
+    }
+}
