@@ -28,7 +28,7 @@ use Rattle.bk_asm.specs.declared.operation.Last.TheVariants as lasts
 use Rattle.bk_asm.proofs.Named.{value_holds, all_values}
 
 -- what the table of words allows where a name of a sort stands
-abbrev allowed : Names → Allowed
+abbrev pub allowed : Names → Allowed
 allowed names.Register = register
 allowed names.Flag = flag
 allowed names.State = any_state
@@ -63,14 +63,14 @@ admitted names.Owner n is = by_names names.Owner choice n refl is
 admitted names.Tested n is = by_names names.Tested tested n refl is
 admitted names.Field n is = by_names names.Field (Range 0 19) n refl is
 
-abbrev allowed_slot : Slot → ℕ → Allowed
+abbrev pub allowed_slot : Slot → ℕ → Allowed
 allowed_slot slots.Nothing f = Zero
 allowed_slot (slots.Name sort) f = allowed sort
 allowed_slot (slots.Perhaps sort) f = allowed sort
 allowed_slot slots.Classes f = classes
 allowed_slot slots.Values f = Range 1 (limit_of f)
 
-abbrev allowed_last : Last → Allowed
+abbrev pub allowed_last : Last → Allowed
 allowed_last lasts.Nothing = Zero
 allowed_last lasts.Shift = shift
 allowed_last lasts.Number = any_number
@@ -103,7 +103,7 @@ last_admits lasts.Shift n e = grind (arith, nat_tests, e)
 last_admits lasts.Number n e = grind (arith, nat_tests, e)
 last_admits lasts.Target n e = grind (arith, nat_tests, e)
 
-abbrev row : Allowed → Allowed → Allowed → Allowed → Row
+abbrev pub row : Allowed → Allowed → Allowed → Allowed → Row
 row a b c imm = record { a = a; b = b; c = c; imm = imm }
 
 -- no fault, where each field is admitted
@@ -124,7 +124,7 @@ bk_row a is = ap (λ n. Some (row tested (Range 1 n) Zero target)) (limits a is)
 abbrev first_ok : Operation → ℕ → Type 0
 first_ok o a = slot_ok (shape o).a 0 a ≡ true
 
-the_row : (o : Operation) (a : ℕ) → first_ok o a → row_is o a
+pub the_row : (o : Operation) (a : ℕ) → first_ok o a → row_is o a
 the_row operations.Nop a is = refl
 the_row operations.Add a is = refl
 the_row operations.Sub a is = refl

@@ -1,6 +1,13 @@
+pub mod Computed
 pub mod Drafted
 pub mod Entries
+pub mod Fitting
+pub mod FormAgain
 pub mod InRange
+pub mod KnowAgain
 pub mod LabelPlaces
+pub mod LabelsAgain
 pub mod Named
+pub mod PlacesAgain
+pub mod Sentences
 pub mod Texts

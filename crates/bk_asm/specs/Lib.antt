@@ -1,3 +1,4 @@
+pub mod Again
 pub mod Drafts
 pub mod Faults
 pub mod Mnemonics

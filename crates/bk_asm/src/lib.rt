@@ -16,7 +16,7 @@ mod writing;
 
 pub use assembly::assemble;
 pub use fault::{AsmFault, Kind};
-pub use writing::disassemble;
+pub use writing::{canonical_text_again, disassemble};
 
 #[cfg(test)]
 mod tests;

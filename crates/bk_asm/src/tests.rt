@@ -1,5 +1,6 @@
 use super::*;
-use bk_image::write_image;
+use bk_image::{Image, write_image};
+use bk_isa::instr_of;
 use std::test::*;
 
 /// The canonical text of an image that serves requests past the caches.
@@ -166,5 +167,30 @@ fn canonical_texts(rt: HostRuntime) -> Result<(), Fail> {
         assert!(rt; canonical(&rt, text, written)?, "{text:?}");
         assert!(rt; canonical(&rt, written, written)?, "{text:?}");
     }
+    Ok(())
+}
+
+/// The canonical text of an image of one instruction, if that is one.
+fn text_of(rt: &HostRuntime, word: u64) -> Result<Option<Vec<u8>>, Fail> {
+    let mut instrs = Vec::new(rt.alloc());
+    match instr_of(word) {
+        Ok(instr) => instrs.push(instr)?,
+        Err(_) => return Ok(None),
+    }
+    match Image::make(instrs, Vec::new(rt.alloc())) {
+        Some(image) => Ok(Some(disassemble(rt.alloc(), &image)?)),
+        None => Ok(None),
+    }
+}
+
+/// A branch to a place that the image lacks is written all the same; its label is then defined nowhere.
+#[test]
+fn a_branch_out_of_the_image(rt: HostRuntime) -> Result<(), Fail> {
+    let text = text_of(&rt, 0x2000_0000_0000_0005)?;
+    assert!(rt; matches!(&text, Some(text) if text.as_slice() == "  bi L005\n".as_bytes()));
+    assert_eq!(rt;
+        text.and_then(|text| fault_of(&rt, &text)),
+        Some([1, 6, 26])
+    );
     Ok(())
 }

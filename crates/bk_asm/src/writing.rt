@@ -1,7 +1,13 @@
-ghost use Rattle.std.specs.Prelude.{◌≡◌, ◌++◌, map, true, IfOk, OnOk, string_bytes};
+ghost use Rattle.std.specs.Prelude.{◌≡◌, ◌++◌, map, true, IfOk, IfSome, OnOk, string_bytes};
 ghost use Rattle.std.specs.List.{list_any};
 ghost use Rattle.bk_isa.specs.Fields.{fields_of};
+ghost use Rattle.bk_isa.specs.Words.{IsInRange};
+ghost use Rattle.bk_know.specs.Sets.{IsKnow};
+ghost use Rattle.bk_image.specs.Images.{Parts, known};
+ghost use Rattle.bk_image.specs.Spelling.{IsImage};
+ghost use Rattle.bk_asm.specs.Again.{all_inside, IsAgain};
 ghost use Rattle.bk_asm.specs.Ranges.{is_target};
+ghost use Rattle.bk_asm.specs.Reading.{image_at};
 ghost use Rattle.bk_asm.specs.Writing.{name_of, is_in, set_text, slot_text, label_text, last_text, form_text, field_text, fields_text, based_text, know_text, know_line_text, goes_to, label_line, form_line, place_text, spelling};
 
 use crate::mnemonic::{mnemonic, operation_of};
@@ -28,7 +34,8 @@ struct Operands {
 
 /// The operands of an instruction.
 fn operands_of(instr: Instr) -> Operands
-    ensures { let p = fields_of instr in result ≡ record { a = p.a; b = p.b; c = p.c; imm = p.imm } }
+    ensures value { let p = fields_of instr in result ≡ record { a = p.a; b = p.b; c = p.c; imm = p.imm } }
+    ensures in_range { IsInRange instr }
 {
     let word = word_of(instr);
     Operands {
@@ -137,7 +144,8 @@ fn push_last(out: &mut String, last: Last, number: u32) -> Result<(), AllocError
 
 /// Writes an instruction.
 fn push_form(out: &mut String, instr: Instr) -> Result<(), AllocError>
-    ensures { OnOk result (string_bytes out.new ≡ string_bytes out.old ++ form_text instr) }
+    ensures text { OnOk result (string_bytes out.new ≡ string_bytes out.old ++ form_text instr) }
+    ensures in_range { OnOk result (IsInRange instr) }
 {
     let operation = operation_of(instr.form());
     let shape = operation.shape();
@@ -201,8 +209,11 @@ fn push_based(
 
 /// Writes a know line.
 fn push_know(out: &mut String, know: Know) -> Result<(), AllocError>
-    ensures { OnOk result (string_bytes out.new ≡ string_bytes out.old ++ know_text know) }
+    ensures text { OnOk result (string_bytes out.new ≡ string_bytes out.old ++ know_text know) }
+    ensures mask { IsKnow know }
 {
+    // The sets are those of a mask, so each is in its range.
+    let _mask = know.mask();
     let sets = know.sets();
     let fields = names_of(Names::Field);
     if subset(sets.stage, HELD_OR_CLOSING) {
@@ -241,7 +252,8 @@ fn push_label_line(out: &mut String, instrs: &[Instr], place: u32) -> Result<(),
 
 /// Writes the know line of a place, if it has one.
 fn push_know_line(out: &mut String, know: Option<Know>) -> Result<(), AllocError>
-    ensures { OnOk result (string_bytes out.new ≡ string_bytes out.old ++ know_line_text know) }
+    ensures text { OnOk result (string_bytes out.new ≡ string_bytes out.old ++ know_line_text know) }
+    ensures mask { IfSome know (λ k. IsKnow k) }
 {
     match know {
         Some(know) => push_know(out, know),
@@ -252,7 +264,8 @@ fn push_know_line(out: &mut String, know: Option<Know>) -> Result<(), AllocError
 /// Writes an instruction alone.
 #[tactic(auto, unfolding(crate::specs::Writing::form_line))]
 fn push_form_line(out: &mut String, instr: Instr) -> Result<(), AllocError>
-    ensures { OnOk result (string_bytes out.new ≡ string_bytes out.old ++ form_line instr) }
+    ensures text { OnOk result (string_bytes out.new ≡ string_bytes out.old ++ form_line instr) }
+    ensures in_range { OnOk result (IsInRange instr) }
 {
     out.push_str("  ")?;
     push_form(out, instr)?;
@@ -261,7 +274,9 @@ fn push_form_line(out: &mut String, instr: Instr) -> Result<(), AllocError>
 
 /// Writes what stands at a place: its label, its know line and its instruction.
 fn push_place(out: &mut String, image: &Image, place: u32, instr: Instr) -> Result<(), AllocError>
-    ensures { OnOk result (string_bytes out.new ≡ string_bytes out.old ++ place_text image.now place instr) }
+    ensures text { OnOk result (string_bytes out.new ≡ string_bytes out.old ++ place_text image.now place instr) }
+    ensures in_range { OnOk result (IsInRange instr) }
+    ensures mask { OnOk result (IfSome (known image.now.knows place) (λ k. IsKnow k)) }
 {
     push_label_line(out, image.instrs(), place)?;
     push_know_line(out, image.know_at(place))?;
@@ -270,10 +285,14 @@ fn push_place(out: &mut String, image: &Image, place: u32, instr: Instr) -> Resu
 
 /// Writes what stands at each place.
 fn push_places(out: &mut String, image: &Image) -> Result<(), AllocError>
-    ensures { OnOk result (string_bytes out.new ≡ string_bytes out.old ++ spelling image.now) }
+    ensures text { OnOk result (string_bytes out.new ≡ string_bytes out.old ++ spelling image.now) }
+    ensures image { OnOk result (IsImage image.now) }
 {
+    let instrs = image.instrs();
+    // Each know line is one of a place, so all of them are written.
+    let _knows = image.knows();
     let mut place = 0;
-    for instr in image.instrs() {
+    for instr in instrs {
         push_place(out, image, place, *instr)?;
         place += 1;
     }
@@ -282,9 +301,17 @@ fn push_places(out: &mut String, image: &Image) -> Result<(), AllocError>
 
 /// The canonical text of an image (`docs/ASSEMBLY.md`). Fails only where memory runs out.
 pub fn disassemble(alloc: Global, image: &Image) -> Result<Vec<u8>, AllocError>
-    ensures { IfOk result (λ v. v.items ≡ spelling image.now) }
+    ensures text { IfOk result (λ v. v.items ≡ spelling image.now) }
+    // What is written is read as the image that was written, where each branch goes to a place; else the fault is of kind 26.
+    ensures again { IfOk result (λ v. IsAgain (all_inside image.now.instrs) image.now (image_at v.items)) }
 {
     let mut out = String::new(alloc);
     push_places(&mut out, image)?;
     Ok(out.into_bytes())
 }
+
+/// The canonical text of an image is read as that image where each branch goes to a place; else a label is defined nowhere, and
+/// the fault is of kind 26.
+pub fn canonical_text_again()
+    ensures { (x : Parts) → IsImage x → IsAgain (all_inside x.instrs) x (image_at (spelling x)) }
+{}
