@@ -2,12 +2,12 @@ pub mod Changes
 pub mod Core
 pub mod Engines
 pub mod Heads
+pub mod Into
 pub mod Kept
 pub mod Laws
 pub mod Outward
 pub mod Ranges
 pub mod Reads
-pub mod Running
 pub mod Sends
 pub mod Step
 pub mod Stops

@@ -13,7 +13,7 @@ mod sends;
 mod step;
 mod stop;
 
-pub use engine::{Engine, EngineStep};
+pub use engine::{Engine, EngineStep, Stepped};
 pub use heads::{COH_ACK, REQUEST, head_number, names_class};
 pub use parts::{Choice, Core, Head, Held, Kept, RequestKind};
 pub use stop::{Halt, Stop};

@@ -1,4 +1,4 @@
-ghost use Rattle.std.specs.Prelude.{◌≡◌, ◌<◌, ◌≤◌, [], ◌∷◌, true, IfSome};
+ghost use Rattle.std.specs.Prelude.{◌≡◌, ◌<◌, ◌≤◌, [], true, IfSome};
 ghost use Rattle.bk_msg.specs.Within.{IsWay};
 ghost use Rattle.bk_dir.specs.Directories.{contents_of};
 ghost use Rattle.bk_engine.specs.Kept.{IsSound};
@@ -17,20 +17,6 @@ use bk_msg::Message;
 
 /// The messages of an instruction: `inv` alone may send more than one, one for each cache at most.
 pub(crate) type Sent = ArrayVec<Message, 16>;
-
-fn no_message() -> Sent
-    ensures { result.items ≡ [] }
-{
-    ArrayVec::new()
-}
-
-fn one_message(message: Message) -> Sent
-    ensures { result.items ≡ message ∷ [] }
-{
-    let mut sent = ArrayVec::new();
-    sent.push(message);
-    sent
-}
 
 fn is_owner(at: Option<(u8, u8)>, cache: u8) -> bool
     ensures { result ≡ is_owner at cache }
@@ -51,27 +37,27 @@ pub(crate) fn is_invalidated(with_owner: bool, summary: &Summary, cache: u8) -> 
 }
 
 /// An invalidation to each cache that is sent one, by cache.
-fn invs(config: Config, held: &Held, with_owner: bool, summary: &Summary) -> Sent
-    requires { config.caches ≤ 8 }
-    ensures { result.items ≡ invs config held.now with_owner summary.now }
+fn invs(config: Config, held: &Held, with_owner: bool, summary: &Summary, sent: &mut Sent)
+    requires few { config.caches ≤ 8 }
+    requires empty { sent.old.items ≡ [] }
+    ensures { sent.new.items ≡ invs config held.now with_owner summary.now }
 {
-    let mut sent = ArrayVec::new();
     for cache in 0..config.caches {
         if is_invalidated(with_owner, summary, cache) {
             sent.push(Message::inv(cache, held.addr));
         }
     }
-    sent
 }
 
-fn flush_to(at: Option<(u8, u8)>, state: Coh, addr: Addr) -> Sent
+fn flush_to(at: Option<(u8, u8)>, state: Coh, addr: Addr, sent: &mut Sent)
     requires at { IfSome at (λ a. a.0 < 8) }
     requires state { holds Lowered state ≡ true }
-    ensures { result.items ≡ flush_to at state addr }
+    requires empty { sent.old.items ≡ [] }
+    ensures { sent.new.items ≡ flush_to at state addr }
 {
     match at {
-        None => no_message(),
-        Some((cache, _)) => one_message(Message::st_wb(cache, state, addr)),
+        None => (),
+        Some((cache, _)) => sent.push(Message::st_wb(cache, state, addr)),
     }
 }
 
@@ -87,37 +73,39 @@ fn victim_address(config: Config, directory: &Directory, held: &Held) -> Addr
 }
 
 /// A flush of an entry: the requester's own (0), the owner's (1), the victim (2).
-fn flushes(config: Config, directory: &Directory, held: &Held, who: u8, state: Coh) -> Sent
+fn flushes(config: Config, directory: &Directory, held: &Held, who: u8, state: Coh, sent: &mut Sent)
     requires config { directory.now.config ≡ config }
     requires few { config.caches ≤ 8 }
     requires way { IsWay config held.now.source held.now.way }
     requires state { holds Lowered state ≡ true }
-    ensures { result.items ≡ flushes config (contents_of directory.now) held.now who state }
+    requires empty { sent.old.items ≡ [] }
+    ensures { sent.new.items ≡ flushes config (contents_of directory.now) held.now who state }
 {
     match who {
-        0 => one_message(Message::st_wb(held.source, state, held.addr)),
+        0 => sent.push(Message::st_wb(held.source, state, held.addr)),
         1 => {
             let owner = summary_for(config, directory, held).owner;
-            flush_to(owner, state, held.addr)
+            flush_to(owner, state, held.addr, sent)
         }
         _ => {
             let addr = victim_address(config, directory, held);
-            one_message(Message::st_wb(held.source, state, addr))
+            sent.push(Message::st_wb(held.source, state, addr))
         }
     }
 }
 
-fn transfer_to(held: &Held, at: Option<(u8, u8)>, owner_state: Coh, state: Coh) -> Sent
+fn transfer_to(held: &Held, at: Option<(u8, u8)>, owner_state: Coh, state: Coh, sent: &mut Sent)
     requires at { IfSome at (λ a. a.0 < 8) }
     requires peer { held.now.source < 8 }
     requires way { held.now.way < 8 }
     requires owner_state { holds Left owner_state ≡ true }
     requires state { holds Received state ≡ true }
-    ensures { result.items ≡ transfer_to held.now at owner_state state }
+    requires empty { sent.old.items ≡ [] }
+    ensures { sent.new.items ≡ transfer_to held.now at owner_state state }
 {
     match at {
-        None => no_message(),
-        Some((cache, _)) => one_message(Message::st_tr(
+        None => (),
+        Some((cache, _)) => sent.push(Message::st_tr(
             cache,
             owner_state,
             held.source,
@@ -128,88 +116,107 @@ fn transfer_to(held: &Held, at: Option<(u8, u8)>, owner_state: Coh, state: Coh) 
     }
 }
 
-fn grants(held: &Held, state: Coh, got: &Option<[u64; 8]>) -> Sent
+fn grants(held: &Held, state: Coh, got: &Option<[u64; 8]>, sent: &mut Sent)
     requires source { held.now.source < 8 }
     requires way { held.now.way < 8 }
     requires state { holds Granted state ≡ true }
-    ensures { result.items ≡ grants held.now state got.now }
+    requires empty { sent.old.items ≡ [] }
+    ensures { sent.new.items ≡ grants held.now state got.now }
 {
     match got {
-        None => no_message(),
-        Some(words) => one_message(Message::blk(held.source, held.way, state, held.addr, *words)),
+        None => (),
+        Some(words) => sent.push(Message::blk(held.source, held.way, state, held.addr, *words)),
     }
 }
 
-fn answers_word(held: &Held, got: &Option<[u64; 8]>) -> Sent
-    requires { held.now.source < 8 }
-    ensures { result.items ≡ answers_word held.now got.now }
+fn answers_word(held: &Held, got: &Option<[u64; 8]>, sent: &mut Sent)
+    requires source { held.now.source < 8 }
+    requires empty { sent.old.items ≡ [] }
+    ensures { sent.new.items ≡ answers_word held.now got.now }
 {
     match got {
-        None => no_message(),
+        None => (),
         Some(words) => {
             let word = words[word_of(held.addr) as usize];
-            one_message(Message::uc_blk(held.source, held.addr, word))
+            sent.push(Message::uc_blk(held.source, held.addr, word))
         }
     }
 }
 
-fn writes_back(dirty: &Option<Kept>) -> Sent
-    ensures { result.items ≡ writes_back dirty.now }
+fn writes_back(dirty: &Option<Kept>, sent: &mut Sent)
+    requires empty { sent.old.items ≡ [] }
+    ensures { sent.new.items ≡ writes_back dirty.now }
 {
     match dirty {
-        None => no_message(),
-        Some(kept) => one_message(Message::write(kept.addr, kept.words)),
+        None => (),
+        Some(kept) => sent.push(Message::write(kept.addr, kept.words)),
     }
 }
 
 /// The messages that an instruction sends for the held request.
-fn sends_for(config: Config, core: &Core, directory: &Directory, held: &Held, form: Form) -> Sent
+fn sends_for(
+    config: Config,
+    core: &Core,
+    directory: &Directory,
+    held: &Held,
+    form: Form,
+    sent: &mut Sent,
+)
     requires config { directory.now.config ≡ config }
     requires few { config.caches ≤ 8 }
     requires few_ways { config.ways ≤ 8 }
     requires way { IsWay config held.now.source held.now.way }
     requires states { HasStates form }
-    ensures { result.items ≡ sends_for config (record { core = core.now; directory = contents_of directory.now }) held.now form }
+    requires empty { sent.old.items ≡ [] }
+    ensures { sent.new.items ≡ sends_for config (record { core = core.now; directory = contents_of directory.now }) held.now form }
 {
     match form {
-        Form::Inv { a } => invs(config, held, a == 1, &summary_for(config, directory, held)),
-        Form::Stwb { a, b } => flushes(config, directory, held, a, b),
+        Form::Inv { a } => invs(
+            config,
+            held,
+            a == 1,
+            &summary_for(config, directory, held),
+            sent,
+        ),
+        Form::Stwb { a, b } => flushes(config, directory, held, a, b, sent),
         Form::Tr { a, b } => {
             let owner = summary_for(config, directory, held).owner;
-            transfer_to(held, owner, a, b)
+            transfer_to(held, owner, a, b, sent)
         }
-        Form::Blk { a } => grants(held, a, &core.got),
-        Form::Wake => one_message(Message::st_wake(held.source, held.way, held.addr)),
-        Form::Ucblk => answers_word(held, &core.got),
-        Form::Ucdone => one_message(Message::uc_done(held.source, held.addr)),
-        Form::Done => one_message(Message::done(held.source, held.addr)),
-        Form::Memrd => one_message(Message::read(held.addr)),
-        Form::Memww => one_message(Message::write_word(held.addr, held.value)),
-        _ => no_message(),
+        Form::Blk { a } => grants(held, a, &core.got, sent),
+        Form::Wake => sent.push(Message::st_wake(held.source, held.way, held.addr)),
+        Form::Ucblk => answers_word(held, &core.got, sent),
+        Form::Ucdone => sent.push(Message::uc_done(held.source, held.addr)),
+        Form::Done => sent.push(Message::done(held.source, held.addr)),
+        Form::Memrd => sent.push(Message::read(held.addr)),
+        Form::Memww => sent.push(Message::write_word(held.addr, held.value)),
+        _ => (),
     }
 }
 
-fn sends_held(config: Config, core: &Core, directory: &Directory, form: Form) -> Sent
+fn sends_held(config: Config, core: &Core, directory: &Directory, form: Form, sent: &mut Sent)
     requires config { directory.now.config ≡ config }
     requires sound { IsSound config core.now }
     requires states { HasStates form }
-    ensures { result.items ≡ sends_held config (record { core = core.now; directory = contents_of directory.now }) core.now.held form }
+    requires empty { sent.old.items ≡ [] }
+    ensures { sent.new.items ≡ sends_held config (record { core = core.now; directory = contents_of directory.now }) core.now.held form }
 {
     match &core.held {
-        None => no_message(),
-        Some(held) => sends_for(config, core, directory, held, form),
+        None => (),
+        Some(held) => sends_for(config, core, directory, held, form, sent),
     }
 }
 
 /// The messages that an instruction sends, in order, where it runs.
-pub(crate) fn sends(config: Config, core: &Core, directory: &Directory, form: Form) -> Sent
+pub(crate) fn sends(config: Config, core: &Core, directory: &Directory, form: Form, sent: &mut Sent)
     requires config { directory.now.config ≡ config }
     requires sound { IsSound config core.now }
     requires states { HasStates form }
-    ensures { result.items ≡ sends config (record { core = core.now; directory = contents_of directory.now }) form }
+    requires empty { sent.old.items ≡ [] }
+    ensures { sent.new.items ≡ sends config (record { core = core.now; directory = contents_of directory.now }) form }
 {
     match form {
-        Form::Memwb => writes_back(&core.dirty),
-        _ => sends_held(config, core, directory, form),
+        Form::Memwb => writes_back(&core.dirty, sent),
+        _ => sends_held(config, core, directory, form, sent),
     }
 }

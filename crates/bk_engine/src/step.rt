@@ -1,4 +1,4 @@
-ghost use Rattle.std.specs.Prelude.{◌≡◌, ◌<◌, ◌≤◌, Some, None, length};
+ghost use Rattle.std.specs.Prelude.{◌≡◌, ◌<◌, ◌≤◌, Some, None, [], All, IfSome, length};
 ghost use Rattle.std.specs.Option.{option_copied};
 ghost use Rattle.bk_isa.specs.Operands.{Operands};
 ghost use Rattle.bk_msg.specs.declared.row.Row.{Row};
@@ -8,18 +8,15 @@ ghost use Rattle.bk_dir.specs.Directories.{contents_of};
 ghost use Rattle.bk_engine.specs.Changes.{next_place};
 ghost use Rattle.bk_engine.specs.Kept.{IsSound};
 ghost use Rattle.bk_engine.specs.Ranges.{HasStates};
-ghost use Rattle.bk_engine.specs.Running.{Answers};
-ghost use Rattle.bk_engine.specs.Outward.{SendsWithin, PopsWithin};
+ghost use Rattle.bk_engine.specs.Outward.{IsOutward};
 ghost use Rattle.bk_engine.specs.Stops.{stop_of};
 ghost use Rattle.bk_engine.specs.Step.{choice_of, pops, ran, runs_to};
 
 use crate::changes::change_core;
 use crate::directory::change_directory;
-use crate::engine::EngineStep;
 use crate::parts::{Choice, Core, Head};
 use crate::reads::{goes, target};
-use crate::sends::sends;
-use crate::stop::Halt;
+use crate::sends::{Sent, sends};
 use bk_base::Config;
 use bk_dir::Directory;
 use bk_isa::{Form, Instr};
@@ -59,7 +56,8 @@ fn pops(core: &Core, form: Form) -> Option<Choice>
     }
 }
 
-/// Runs an instruction that has no reason not to run. All that it reads is read before the first write.
+/// Runs an instruction that has no reason not to run, and answers the head that it takes off its channel. The messages that it
+/// sends are put into `sent`. All that it reads is read before the first write.
 #[tactic(auto, using(crate::proofs::Outward::sent_outward))]
 fn run_form(
     config: Config,
@@ -68,7 +66,8 @@ fn run_form(
     form: Form,
     choice: Choice,
     message: Option<&Message>,
-) -> EngineStep
+    sent: &mut Sent,
+) -> Option<Choice>
     requires config { directory.old.config ≡ config }
     requires sound { IsSound config core.old }
     requires form { Operands form }
@@ -77,19 +76,20 @@ fn run_form(
     requires ways { 0 < config.ways }
     requires source { choice.source < config.caches }
     requires within { (m : Row) → option_copied message ≡ Some m → IsWithin config m }
-    ensures answers { Answers (ran config (record { core = core.old; directory = contents_of directory.old }) form choice (option_copied message.entry)) (record { core = core.new; directory = contents_of directory.new }) result }
+    requires empty { sent.old.items ≡ [] }
+    ensures ran { ran config (record { core = core.old; directory = contents_of directory.old }) form choice (option_copied message.entry) ≡ record { engine = record { core = core.new; directory = contents_of directory.new }; sent = sent.new.items; popped = result } }
     ensures sound { IsSound config core.new }
-    ensures sends { SendsWithin config result }
-    ensures pops { PopsWithin config result }
+    ensures sends { All (IsOutward config) sent.new.items }
+    ensures pops { IfSome result (λ popped. popped.source < config.caches) }
     ensures config { directory.new.config ≡ config }
 {
     let popped = pops(core, form);
     let next = next_place(config, core, directory, form);
-    let sent = sends(config, core, directory, form);
+    sends(config, core, directory, form, sent);
     change_directory(config, core, directory, form);
     change_core(core, sent.len(), form, choice, message);
     core.place = next;
-    EngineStep::Ran { sent, popped }
+    popped
 }
 
 /// Runs the instruction at the engine's place, which has no reason not to run.
@@ -100,7 +100,8 @@ pub(crate) fn run(
     program: &[Instr],
     choice: Choice,
     message: Option<&Message>,
-) -> EngineStep
+    sent: &mut Sent,
+) -> Option<Choice>
     requires few { length program.now ≤ 256 }
     requires config { directory.old.config ≡ config }
     requires sound { IsSound config core.old }
@@ -108,14 +109,15 @@ pub(crate) fn run(
     requires source { choice.source < config.caches }
     requires within { (m : Row) → option_copied message ≡ Some m → IsWithin config m }
     requires runs { stop_of config (record { core = core.old; directory = contents_of directory.old }) program.now choice (option_copied message) ≡ None }
-    ensures answers { Answers (runs_to config (record { core = core.old; directory = contents_of directory.old }) program.now choice (option_copied message.entry)) (record { core = core.new; directory = contents_of directory.new }) result }
+    requires empty { sent.old.items ≡ [] }
+    ensures ran { runs_to config (record { core = core.old; directory = contents_of directory.old }) program.now choice (option_copied message.entry) ≡ record { engine = record { core = core.new; directory = contents_of directory.new }; sent = sent.new.items; popped = result } }
     ensures sound { IsSound config core.new }
-    ensures sends { SendsWithin config result }
-    ensures pops { PopsWithin config result }
+    ensures sends { All (IsOutward config) sent.new.items }
+    ensures pops { IfSome result (λ popped. popped.source < config.caches) }
     ensures config { directory.new.config ≡ config }
 {
     match program.get(core.place as usize) {
-        None => EngineStep::Halted(Halt::NoInstruction),
-        Some(instr) => run_form(config, core, directory, instr.form(), choice, message),
+        None => None,
+        Some(instr) => run_form(config, core, directory, instr.form(), choice, message, sent),
     }
 }
