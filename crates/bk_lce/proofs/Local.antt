@@ -71,7 +71,8 @@ when_idle : (P : Taken → Type 0) (busy : Option InProgress) (x : Taken) → P 
 when_idle P None x h = some P x h
 when_idle P (Some b) x h = none P
 
-when_busy : (P : Taken → Type 0) (busy : Option InProgress) (row : ℕ → Op → Option Taken) → ((way : ℕ) (op : Op) → Each P (row way op)) → Each P (ends busy row)
+when_busy : (P : Taken → Type 0) (busy : Option InProgress) (row : ℕ → Op → Option Taken) → ((way : ℕ) (op : Op) → Each P (row way op))
+    → Each P (ends busy row)
 when_busy P None row h = none P
 when_busy P (Some b) row h = h b.way b.op
 
@@ -93,7 +94,8 @@ module _ (k : Shape) (n : CacheState) (c : ℕ) where
   store_local : (addr value way : ℕ) (at : Option ℕ) → KeepsOthers (group_of k addr) n (store_row k n c addr value way at)
   store_local addr value way None = λ s d. untouched n _ s
   store_local addr value way (Some w) =
-      if_so (KeepsOthers (group_of k addr) n) (is_writable (line_at k n addr w).state) (store_hit k n c addr value w) (asks n (Store addr value) w (rows.Wr c ENGINE w (block_start addr)))
+      if_so (KeepsOthers (group_of k addr) n) (is_writable (line_at k n addr w).state) (store_hit k n c addr value w)
+      (asks n (Store addr value) w (rows.Wr c ENGINE w (block_start addr)))
       (λ s d. both_other n (group_of k addr) w s _ d) (λ s d. untouched n _ s)
 
   evict_local : (addr : ℕ) (at : Option ℕ) → KeepsOthers (group_of k addr) n (evict_row n c addr at)
@@ -126,14 +128,17 @@ module _ (k : Shape) (n : CacheState) (c : ℕ) where
     flush_local state None = none Keeps
     flush_local state (Some w) = some Keeps _ (λ s d. lines_other n (group_of k addr) w s _ d)
 
-    transfer_local : (state : Coh) (peer peer_way : ℕ) (peer_state : Coh) (at : Option ℕ) → Each Keeps (transfer_row k n c addr state peer peer_way peer_state at)
+    transfer_local : (state : Coh) (peer peer_way : ℕ) (peer_state : Coh) (at : Option ℕ)
+        → Each Keeps (transfer_row k n c addr state peer peer_way peer_state at)
     transfer_local state peer peer_way peer_state None = none Keeps
     transfer_local state peer peer_way peer_state (Some w) = not_where Keeps (peer == c) _ (λ s d. lines_other n (group_of k addr) w s _ d)
 
     grant_local : (way : ℕ) (state : Coh) (words : List ℕ) (op : Op) → Each Keeps (grant_row k n c way state addr words op)
-    grant_local way state words (Load at) = only_where Keeps (block_of at == block_of addr) _ (λ e. fills_local (Load at) at (slice_index words (word_of at)) way _ (one_block k at addr e))
+    grant_local way state words (Load at) =
+        only_where Keeps (block_of at == block_of addr) _ (λ e. fills_local (Load at) at (slice_index words (word_of at)) way _ (one_block k at addr e))
     grant_local way state words (Store at value) =
-        only_where Keeps (block_of at == block_of addr && is_writable state) _ (λ e. fills_local (Store at value) at 0 way _ (one_block k at addr (first_part _ _ e)))
+        only_where Keeps (block_of at == block_of addr && is_writable state) _
+        (λ e. fills_local (Store at value) at 0 way _ (one_block k at addr (first_part _ _ e)))
     grant_local way state words (UcLoad at) = none Keeps
     grant_local way state words (UcStore at value) = none Keeps
     grant_local way state words (Evict at) = none Keeps
@@ -145,7 +150,8 @@ module _ (k : Shape) (n : CacheState) (c : ℕ) where
     wake_local : (way : ℕ) (op : Op) → Each Keeps (wake_row k n c way addr op)
     wake_local way (Load at) = none Keeps
     wake_local way (Store at value) =
-        only_where Keeps (block_of at == block_of addr && holds (line_at k n at way) (tag_at k at)) _ (λ e. fills_local (Store at value) at 0 way _ (one_block k at addr (first_part _ _ e)))
+        only_where Keeps (block_of at == block_of addr && holds (line_at k n at way) (tag_at k at)) _
+        (λ e. fills_local (Store at value) at 0 way _ (one_block k at addr (first_part _ _ e)))
     wake_local way (UcLoad at) = none Keeps
     wake_local way (UcStore at value) = none Keeps
     wake_local way (Evict at) = none Keeps
@@ -211,11 +217,13 @@ touches_one_set k n c = record { given = λ op way. issue_local k n c op way; co
 abbrev WritesSole : CacheState → Taken → Type 0
 WritesSole n t = (s w : ℕ) → t.state.lines s w ≢ n.lines s w → IsWrittenAtOnce (n.lines s w) (t.state.lines s w)
 
-at_place : (n : CacheState) (g v s w : ℕ) (line : Line) → ((g ≡ s) × (v ≡ w) × ((with_line n g v line).lines s w ≡ line)) ⊎ ((with_line n g v line).lines s w ≡ n.lines s w)
+at_place : (n : CacheState) (g v s w : ℕ) (line : Line)
+    → ((g ≡ s) × (v ≡ w) × ((with_line n g v line).lines s w ≡ line)) ⊎ ((with_line n g v line).lines s w ≡ n.lines s w)
 unfolding put
 at_place n g v s w line = grind (arith, nat_tests)
 
-hit_writes : (k : Shape) (n : CacheState) (c addr value w : ℕ) → is_writable (line_at k n addr w).state ≡ true → WritesSole n (store_hit k n c addr value w)
+hit_writes : (k : Shape) (n : CacheState) (c addr value w : ℕ) → is_writable (line_at k n addr w).state ≡ true
+    → WritesSole n (store_hit k n c addr value w)
 hit_writes k n c addr value w h s v d =
     elim (at_place n (group_of k addr) w s v (stored (line_at k n addr w) addr value)) [
       | inl q ↦

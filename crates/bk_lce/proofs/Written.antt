@@ -20,7 +20,13 @@ line-at : (xs : List Line) (s w : ℕ) (line : Line) → w < 8 → place_of s w 
     → lines_of (slice_set xs (place_of s w) line) i v ≡ put (lines_of xs) s (put (lines_of xs s) w line) i v
 unfolding lines_of put
 line-at xs s w line l within i v =
-    grind (arith, nat_tests, other_place s w i v, get_or-set_same xs (place_of s w) line empty_line, get_or-set_other xs (place_of s w) (place_of i v) line empty_line)
+    grind (
+      arith,
+      nat_tests,
+      other_place s w i v,
+      get_or-set_same xs (place_of s w) line empty_line,
+      get_or-set_other xs (place_of s w) (place_of i v) line empty_line,
+    )
 
 -- a line written at its place
 pub lines_of_set : (xs : List Line) (s w : ℕ) (line : Line) → w < 8 → place_of s w < length xs
@@ -35,13 +41,15 @@ recency-at ways xs s new within i =
     grind (arith, nat_tests, get_or-set_same xs s new usual, get_or-set_other xs s i new usual)
 
 -- a set's recency written
-pub recency_of_set : (ways : ℕ) (xs : List (ArrayVec ℕ)) (s w : ℕ) (new : ArrayVec ℕ) → s < length xs → new.items ≡ to_front w (recency_of ways xs s)
+pub recency_of_set : (ways : ℕ) (xs : List (ArrayVec ℕ)) (s w : ℕ) (new : ArrayVec ℕ) → s < length xs
+    → new.items ≡ to_front w (recency_of ways xs s)
     → recency_of ways (slice_set xs s new) ≡ put (recency_of ways xs) s (to_front w (recency_of ways xs s))
 recency_of_set ways xs s w new within e =
     subst (λ vs. recency_of ways (slice_set xs s new) ≡ put (recency_of ways xs) s vs) e (fun_ext (λ i. recency-at ways xs s new within i))
 
 -- each way still stands in it
-pub complete_set : (k : Shape) (xs : List (ArrayVec ℕ)) (s w : ℕ) (new : ArrayVec ℕ) → s < length xs → new.items ≡ to_front w (recency_of k.ways xs s)
+pub complete_set : (k : Shape) (xs : List (ArrayVec ℕ)) (s w : ℕ) (new : ArrayVec ℕ) → s < length xs
+    → new.items ≡ to_front w (recency_of k.ways xs s)
     → AreComplete k xs → AreComplete k (slice_set xs s new)
 unfolding put
 complete_set k xs s w new within e h i v l =

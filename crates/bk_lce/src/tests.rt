@@ -15,6 +15,11 @@ fn view(state: Coh, age: u8) -> WayView {
     WayView { state, age }
 }
 
+/// Takes what may move between threads.
+fn moves<T: Send + Drop>(moved: T) {
+    let _moved = moved;
+}
+
 /// The request that an operation sends.
 fn request<F: Fn(&[WayView]) -> u8 + Copy + Send>(cache: &mut Cache<F>, op: Op) -> Option<Message>
     requires { IsPolicy F.Fn cache.old.victim.pick }
@@ -90,6 +95,7 @@ fn a_policy_that_keeps_its_way(rt: HostRuntime) -> Result<(), Fail> {
         request(&mut cache, Op::Load(addr)),
         Some(Message::rd(0, 1, addr))
     );
+    moves(cache);
     Ok(())
 }
 

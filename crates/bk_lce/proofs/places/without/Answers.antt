@@ -8,4 +8,7 @@ pub returns : goal.returns
 returns c =
     let items : c.retain.new.self.items ≡ filter (λ other. not (other == c.args.way)) c.args.ways.now.items =
     filter-from_retain _ _ _ (λ x b f' y called. search rules) _ _ c.retain.ensures.filtered in
-    record { items = items; shorter = subst (λ (xs : List ℕ). length xs < length c.args.ways.now.items) (sym items) (length_without_has c.args.way c.args.ways.now.items c.requires) }
+    record {
+      items = items;
+      shorter = subst (λ (xs : List ℕ). length xs < length c.args.ways.now.items) (sym items) (length_without_has c.args.way c.args.ways.now.items c.requires);
+    }

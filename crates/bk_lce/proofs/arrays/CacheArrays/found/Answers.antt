@@ -18,4 +18,5 @@ returns-then-holds-clause-value c =
     ∙ ap (λ (t : ℕ). holds c.line-line.result t) (sym c.tag_at-tag.ensures.value) in
     let passes : test c.loop-way.way ≡ true = same ∙ sym c.holds.ensures ∙ c.if-holds.true in
     let lt : c.loop-way.way < c.args.self.now.config.ways = grind (arith, c.self.view_is, c.loop-way-test.true) in
-    sym (first_below-found c.args.self.now.config.ways c.loop-way.way (λ w. if test w then Some w else None) c.loop-way.way lt c.loop-way.invariant (ap (λ (b : Bool). if b then Some c.loop-way.way else None) passes))
+    sym (first_below-found c.args.self.now.config.ways c.loop-way.way (λ w. if test w then Some w else None)
+    c.loop-way.way lt c.loop-way.invariant (ap (λ (b : Bool). if b then Some c.loop-way.way else None) passes))

@@ -15,7 +15,8 @@ pub loop-way-preserved : goal.loop-way-preserved
 loop-way-preserved c =
     record {
       state = c.wipe.ensures.state
-          ∙ ap (λ (n : CacheState). with_line n c.group_of-set.result c.loop-way.way (wiped c.tag_at-tag.result (n.lines c.group_of-set.result c.loop-way.way))) c.loop-way.invariant.state
+          ∙ ap (λ (n : CacheState). with_line n c.group_of-set.result c.loop-way.way
+          (wiped c.tag_at-tag.result (n.lines c.group_of-set.result c.loop-way.way))) c.loop-way.invariant.state
           ∙ dropped_more c.loop-way.way c.group_of-set.result c.tag_at-tag.result (state_of c.args.self.now);
       config = c.wipe.ensures.config ∙ c.loop-way.invariant.config;
       number = c.wipe.ensures.number ∙ c.loop-way.invariant.number;
@@ -24,7 +25,8 @@ loop-way-preserved c =
 pub returns-clause-state : goal.returns-clause-state
 returns-clause-state c =
     let eight : c.loop-way.way ≡ 8 = omega arith in
-    let dropped : ℕ → ℕ → CacheState = λ s tag. record (state_of c.args.self.now) { lines = put (state_of c.args.self.now).lines s (λ w. wiped tag ((state_of c.args.self.now).lines s w)) } in
+    let dropped : ℕ → ℕ → CacheState = λ s tag.
+    record (state_of c.args.self.now) { lines = put (state_of c.args.self.now).lines s (λ w. wiped tag ((state_of c.args.self.now).lines s w)) } in
     c.loop-way.invariant.state
     ∙ ap (λ (i : ℕ). dropped_below i c.group_of-set.result c.tag_at-tag.result (state_of c.args.self.now)) eight
     ∙ dropped_all c.args.self.now c.group_of-set.result c.tag_at-tag.result
