@@ -1,12 +1,10 @@
 -- The room that an event needs, and what a cache's step adds to a system.
-use Rattle.std.specs.Prelude.{◌≡◌, ℕ, ◌<◌, ◌≤◌, ◌++◌, List, Option, Some, None, vec_len, vec_capacity, Result, Ok, Err}
+use Rattle.std.specs.Prelude.{◌≡◌, ℕ, ◌<◌, ◌≤◌, ◌++◌, List, Bool, true, false, Option, Some, None, vec_len, vec_capacity, Result, Ok, Err}
 use Rattle.std.specs.Option.{option_to_list}
 use Rattle.bk_base.specs.Places.{Shape}
 use Rattle.bk_base.specs.declared.op.Done.{Done}
 use Rattle.bk_engine.specs.declared.parts.Choice.{Choice}
 use Rattle.bk_msg.specs.declared.row.Row.{Row}
-use Rattle.bk_system.specs.declared.event.Stepped.{Stepped}
-use Rattle.bk_system.specs.declared.event.Stepped.TheVariants.{Disabled, Ran}
 use Rattle.bk_system.specs.declared.hardware.Hardware.{Hardware}
 use Rattle.bk_system.specs.Channels.{room}
 use Rattle.bk_system.specs.State.{State}
@@ -50,12 +48,12 @@ with_popped k s popped = record s {
 abbrev pub with_finished : Shape → State → List Row → Option Choice → State
 with_finished k s sent popped = with_popped k (record s { command = commands_with sent s.command; memout = memout_with sent s.memout }) popped
 
--- an event's row, by what it answered and left
-abbrev pub Answers : Option Happening → State → State → Stepped → Type 0
-Answers row old new Disabled = (row ≡ None) × (new ≡ old)
-Answers row old new (Ran sent) = row ≡ Some (record { state = new; sent = sent.items })
+-- An event's row, by what the event sent and left and whether it ran. One that didn't run changed nothing.
+abbrev pub Answers : Option Happening → State → State → List Row → Bool → Type 0
+Answers row old new sent true = row ≡ Some (record { state = new; sent = sent })
+Answers row old new sent false = (row ≡ None) × (new ≡ old)
 
 -- the same of a call that may fail, where nothing changes
-abbrev pub Happens : {E : Type 0} → Option Happening → State → State → Result Stepped E → Type 0
-Happens row old new (Ok stepped) = Answers row old new stepped
-Happens row old new (Err e) = new ≡ old
+abbrev pub Happens : {E : Type 0} → Option Happening → State → State → List Row → Result Bool E → Type 0
+Happens row old new sent (Ok ran) = Answers row old new sent ran
+Happens row old new sent (Err e) = new ≡ old

@@ -5,10 +5,12 @@ use crate::event::{Event, Stepped};
 use crate::hardware::Hardware;
 use crate::heads::{is_choice, offered};
 use crate::sending::fill_place;
+use arrayvec::ArrayVec;
 use bk_base::Op;
 use bk_engine::Choice;
 use bk_isa::Instr;
 use std::alloc::AllocError;
+use std::mem::replace;
 
 // One event of any kind, and whether it is enabled.
 
@@ -18,10 +20,10 @@ impl Hardware {
     ghost use Rattle.bk_system.specs.Rooms.{Happens};
     ghost use Rattle.bk_system.specs.Runs.{after, is_enabled};
 
-    /// One event, by its kind.
-    fn advance(&mut self, program: &[Instr], event: &Event) -> Result<Stepped, AllocError>
+    /// One event, by its kind: whether it ran. What it sent is then in `sent`.
+    fn advance(&mut self, program: &[Instr], event: &Event) -> Result<bool, AllocError>
         requires { length program.now ≤ 256 }
-        ensures happens { Happens (row self.old.config program.now (state_of self.old) event.now) (state_of self.old) (state_of self.new) result }
+        ensures happens { Happens (row self.old.config program.now (state_of self.old) event.now) (state_of self.old) (state_of self.new) self.new.sent.items result }
         ensures config { self.new.config ≡ self.old.config }
     {
         match event {
@@ -45,7 +47,14 @@ impl Hardware {
         ensures err { OnErr result (state_of self.new ≡ state_of self.old) }
         ensures config { self.new.config ≡ self.old.config }
     {
-        self.advance(program, event)
+        match self.advance(program, event) {
+            Ok(false) => Ok(Stepped::Disabled),
+            Ok(true) => {
+                let sent = replace(&mut self.sent, ArrayVec::new());
+                Ok(Stepped::Ran(sent))
+            }
+            Err(e) => Err(e),
+        }
     }
 
     /// One event: whether it was enabled. One that isn't changes nothing.
@@ -60,9 +69,9 @@ impl Hardware {
         ensures err { OnErr result (state_of self.new ≡ state_of self.old) }
         ensures config { self.new.config ≡ self.old.config }
     {
-        match self.happen(program, event) {
-            Ok(Stepped::Disabled) => Ok(false),
-            Ok(Stepped::Ran(_)) => Ok(true),
+        match self.advance(program, event) {
+            Ok(false) => Ok(false),
+            Ok(true) => Ok(true),
             Err(e) => Err(e),
         }
     }

@@ -7,9 +7,11 @@ use crate::caches::Caches;
 use crate::channels::Channels;
 use crate::event::Group;
 use crate::memory::MainMemory;
+use arrayvec::ArrayVec;
 use bk_base::{Config, Done};
 use bk_engine::Engine;
 use bk_lce::{CacheArrays, Line};
+use bk_msg::Message;
 use std::alloc::{AllocError, Global};
 
 /// How many fill channels there are: one for each receiver and sender of eight.
@@ -36,6 +38,9 @@ pub struct Hardware {
     pub(crate) completed: Vec<usize>,
     pub(crate) taken: Vec<Group>,
     pub(crate) settled: Vec<Group>,
+    /// What the last event that ran has sent. Contracts don't see it: it is kept here since making and moving a list
+    /// of sixteen messages takes many times as long as an event.
+    pub(crate) sent: ArrayVec<Message, 16>,
     ghost few_caches: { config.caches ≤ 8 },
     ghost caches_config: { caches.config ≡ config },
     ghost engine_config: { engine.config ≡ config },
@@ -97,6 +102,7 @@ impl Hardware {
             completed: zeros(alloc, count)?,
             taken: Vec::new(alloc),
             settled: Vec::new(alloc),
+            sent: ArrayVec::new(),
         })
     }
 

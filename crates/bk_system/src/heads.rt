@@ -19,11 +19,6 @@ pub const MEMORY_ANSWERS: u8 = 2;
 
 pub const REQUESTS: u8 = 3;
 
-/// The value of a request as a head, and that of a `CohAck`.
-pub(crate) const REQUEST: u8 = 1;
-
-pub(crate) const COH_ACK: u8 = 3;
-
 /// Whether the instruction at a place is a `wfq`.
 pub(crate) fn is_wait(program: &[Instr], place: u32) -> bool
     ensures { result ≡ is_wait (slice_get program.now place) }

@@ -7,16 +7,13 @@ ghost use Rattle.bk_system.specs.Channels.{queue, room, channel_count};
 
 use crate::bounds::has_cache;
 use crate::channels::Channels;
-use crate::event::Stepped;
 use crate::hardware::Hardware;
 use crate::heads::{
-    COH_ACK, REQUEST, REQUESTS, RESPONSES, head_of, is_choice, note_group, offered,
-    take_answer_off, take_off,
+    REQUESTS, RESPONSES, head_of, is_choice, note_group, offered, take_answer_off, take_off,
 };
 use crate::sending::{reserve_each, send_all};
-use crate::steps::list_of;
-use arrayvec::ArrayVec;
-use bk_engine::{Choice, EngineStep};
+use crate::steps::put_sent;
+use bk_engine::{COH_ACK, Choice, REQUEST, Stepped};
 use bk_isa::Instr;
 use bk_msg::Message;
 use std::alloc::AllocError;
@@ -46,19 +43,20 @@ impl Hardware {
     ghost use Rattle.bk_system.specs.Rooms.{HasRoomForEngine, with_popped, with_finished, Answers, Happens};
 
     /// The memory takes the head of its channel.
-    pub(crate) fn access(&mut self) -> Result<Stepped, AllocError>
-        ensures happens { Happens (accessed (state_of self.old) (first (state_of self.old).memout)) (state_of self.old) (state_of self.new) result }
+    pub(crate) fn access(&mut self) -> Result<bool, AllocError>
+        ensures happens { Happens (accessed (state_of self.old) (first (state_of self.old).memout)) (state_of self.old) (state_of self.new) self.new.sent.items result }
         ensures config { self.new.config ≡ self.old.config }
     {
         let Some(message) = self.memout.head(0) else {
-            return Ok(Stepped::Disabled);
+            return Ok(false);
         };
         let message = *message;
         self.memin.reserve(0, 1)?;
         let answer = self.memory.apply(&message)?;
         send_answer(&mut self.memin, &answer);
         let _ = self.memout.pop(0);
-        Ok(Stepped::Ran(list_of(answer)))
+        put_sent(&mut self.sent, &answer);
+        Ok(true)
     }
 
     /// Makes room for what an instruction may send, and for the groups that it may note. Want of memory
@@ -82,6 +80,7 @@ impl Hardware {
         requires taken { vec_len self.old.taken < vec_capacity self.old.taken }
         requires settled { vec_len self.old.settled < vec_capacity self.old.settled }
         ensures state { state_of self.new ≡ with_popped self.old.config (state_of self.old) popped }
+        ensures sent { self.new.sent.items ≡ self.old.sent.items }
         ensures config { self.new.config ≡ self.old.config }
     {
         let Some(choice) = popped else {
@@ -102,48 +101,51 @@ impl Hardware {
     }
 
     /// Sends what an instruction sends, and takes the head that it has popped off. Room was made.
-    fn finish(&mut self, sent: &ArrayVec<Message, 16>, popped: Option<Choice>)
+    fn finish(&mut self, popped: Option<Choice>)
         requires room { HasRoomForEngine self.old }
-        requires sent { All (IsOutward self.old.config) sent.now.items }
+        requires sent { All (IsOutward self.old.config) self.old.sent.items }
         requires source { IfSome popped (λ choice. choice.source < self.old.config.caches) }
-        ensures state { state_of self.new ≡ with_finished self.old.config (state_of self.old) sent.now.items popped }
+        ensures state { state_of self.new ≡ with_finished self.old.config (state_of self.old) self.old.sent.items popped }
+        ensures sent { self.new.sent.items ≡ self.old.sent.items }
         ensures config { self.new.config ≡ self.old.config }
     {
-        send_all(&mut self.commands, &mut self.memout, sent.as_slice());
+        let sent = self.sent.as_slice();
+        send_all(&mut self.commands, &mut self.memout, sent);
         self.pop_head(popped);
     }
 
     /// The engine runs an instruction, where it has no reason not to. Room was made.
-    fn run_choice(&mut self, program: &[Instr], choice: Choice) -> Stepped
+    fn run_choice(&mut self, program: &[Instr], choice: Choice) -> bool
         requires few { length program.now ≤ 256 }
         requires source { choice.source < self.old.config.caches }
         requires choice { is_choice (slice_get program.now (state_of self.old).engine.core.place) choice ≡ true }
         requires room { HasRoomForEngine self.old }
-        ensures happens { Answers (engine_row self.old.config program.now (state_of self.old) choice) (state_of self.old) (state_of self.new) result }
+        ensures happens { Answers (engine_row self.old.config program.now (state_of self.old) choice) (state_of self.old) (state_of self.new) self.new.sent.items result }
         ensures config { self.new.config ≡ self.old.config }
     {
         let head = offered(&self.responses, &self.memin, &self.requests, choice);
-        match self.engine.step(program, choice, head) {
-            EngineStep::Ran { sent, popped } => {
-                self.finish(&sent, popped);
-                Stepped::Ran(sent)
+        self.sent.clear();
+        match self.engine.step_into(program, choice, head, &mut self.sent) {
+            Stepped::Ran { popped } => {
+                self.finish(popped);
+                true
             }
-            EngineStep::Waits(_) => Stepped::Disabled,
-            EngineStep::Halted(_) => Stepped::Disabled,
+            Stepped::Waits(_) => false,
+            Stepped::Halted(_) => false,
         }
     }
 
     /// The engine runs an instruction.
-    pub(crate) fn run(&mut self, program: &[Instr], choice: Choice) -> Result<Stepped, AllocError>
+    pub(crate) fn run(&mut self, program: &[Instr], choice: Choice) -> Result<bool, AllocError>
         requires { length program.now ≤ 256 }
-        ensures happens { Happens (engine_row self.old.config program.now (state_of self.old) choice) (state_of self.old) (state_of self.new) result }
+        ensures happens { Happens (engine_row self.old.config program.now (state_of self.old) choice) (state_of self.old) (state_of self.new) self.new.sent.items result }
         ensures config { self.new.config ≡ self.old.config }
     {
         if !has_cache(self.config, choice.source) {
-            return Ok(Stepped::Disabled);
+            return Ok(false);
         }
         if !is_choice(program, self.engine.place(), choice) {
-            return Ok(Stepped::Disabled);
+            return Ok(false);
         }
         self.reserve_engine()?;
         Ok(self.run_choice(program, choice))

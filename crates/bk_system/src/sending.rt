@@ -14,7 +14,7 @@ use bk_msg::{Message, Network, Row};
 use std::alloc::AllocError;
 
 /// How many senders the fill channels of a receiver have room for.
-pub(crate) const SENDERS: u8 = 8;
+const SENDERS: u8 = 8;
 
 /// The place of the fill channel to a cache from another.
 pub(crate) fn fill_place(to: u8, from: u8) -> u8

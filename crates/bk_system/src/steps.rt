@@ -5,7 +5,6 @@ ghost use Rattle.bk_lce.specs.Calls.{SendsWithin, CompletesOwn};
 ghost use Rattle.bk_msg.specs.Within.{IsWithin};
 
 use crate::bounds::{cache_count, has_cache, has_way};
-use crate::event::Stepped;
 use crate::hardware::Hardware;
 use crate::sending::{add_done, fill_place, reserve_fills, send_fill, send_request, send_response};
 use arrayvec::ArrayVec;
@@ -17,15 +16,14 @@ use std::alloc::AllocError;
 // Issue, Command and Fill: a cache does a row of its table. An event makes room first for all that the row may
 // send and complete, so that want of memory changes nothing.
 
-/// The list of the one message that was sent, if any.
-pub(crate) fn list_of(sent: Option<Message>) -> ArrayVec<Message, 16>
-    ensures { result.items ≡ option_to_list sent }
+/// Makes a list that of the one message that was sent, if any.
+pub(crate) fn put_sent(list: &mut ArrayVec<Message, 16>, sent: &Option<Message>)
+    ensures { list.new.items ≡ option_to_list sent.now }
 {
-    let mut list = ArrayVec::new();
+    list.clear();
     if let Some(message) = sent {
-        list.push(message);
+        list.push(*message);
     }
-    list
 }
 
 impl Hardware {
@@ -54,75 +52,77 @@ impl Hardware {
         requires sends { SendsWithin self.old.config step.now }
         requires own { CompletesOwn cache step.now }
         ensures state { state_of self.new ≡ with_step (state_of self.old) cache step.now.sent step.now.done }
+        ensures sent { self.new.sent.items ≡ option_to_list step.now.sent }
         ensures config { self.new.config ≡ self.old.config }
     {
         send_request(&mut self.requests, cache, step.sent);
         send_response(&mut self.responses, cache, step.sent);
         send_fill(&mut self.fills, cache, step.sent);
+        put_sent(&mut self.sent, &step.sent);
         add_done(&mut self.completed, &mut self.history, cache, &step.done);
     }
 
     /// A cache is given an operation. Room was made.
-    fn take_operation(&mut self, cache: u8, op: Op, way: u8) -> Stepped
+    fn take_operation(&mut self, cache: u8, op: Op, way: u8) -> bool
         requires cache { cache < self.old.config.caches }
         requires way { way < self.old.config.ways }
         requires room { HasRoomFor self.old cache }
-        ensures happens { Answers (takes (state_of self.old) cache (issue_taken self.old.config (state_of self.old) cache op way)) (state_of self.old) (state_of self.new) result }
+        ensures happens { Answers (takes (state_of self.old) cache (issue_taken self.old.config (state_of self.old) cache op way)) (state_of self.old) (state_of self.new) self.new.sent.items result }
         ensures config { self.new.config ≡ self.old.config }
     {
         match self.caches.issue_at(cache, op, way) {
-            Err(_) => Stepped::Disabled,
+            Err(_) => false,
             Ok(step) => {
                 self.conclude(cache, &step);
-                Stepped::Ran(list_of(step.sent))
+                true
             }
         }
     }
 
     /// An Issue.
-    pub(crate) fn issue(&mut self, cache: u8, op: Op, way: u8) -> Result<Stepped, AllocError>
-        ensures happens { Happens (takes (state_of self.old) cache (issue_taken self.old.config (state_of self.old) cache op way)) (state_of self.old) (state_of self.new) result }
+    pub(crate) fn issue(&mut self, cache: u8, op: Op, way: u8) -> Result<bool, AllocError>
+        ensures happens { Happens (takes (state_of self.old) cache (issue_taken self.old.config (state_of self.old) cache op way)) (state_of self.old) (state_of self.new) self.new.sent.items result }
         ensures config { self.new.config ≡ self.old.config }
     {
         if !has_cache(self.config, cache) {
-            return Ok(Stepped::Disabled);
+            return Ok(false);
         }
         if !has_way(self.config, way) {
-            return Ok(Stepped::Disabled);
+            return Ok(false);
         }
         self.reserve_step(cache)?;
         Ok(self.take_operation(cache, op, way))
     }
 
     /// A cache takes a message, which is the head of its command channel. Room was made.
-    fn take_command(&mut self, cache: u8, message: Message) -> Stepped
+    fn take_command(&mut self, cache: u8, message: Message) -> bool
         requires cache { cache < self.old.config.caches }
         requires head { first ((state_of self.old).command cache) ≡ Some message }
         requires within { IsWithin self.old.config message }
         requires room { HasRoomFor self.old cache }
-        ensures happens { Answers (takes (without_command (state_of self.old) cache) cache (command_taken self.old.config (state_of self.old) cache)) (state_of self.old) (state_of self.new) result }
+        ensures happens { Answers (takes (without_command (state_of self.old) cache) cache (command_taken self.old.config (state_of self.old) cache)) (state_of self.old) (state_of self.new) self.new.sent.items result }
         ensures config { self.new.config ≡ self.old.config }
     {
         match self.caches.command(cache, &message) {
-            Err(_) => Stepped::Disabled,
+            Err(_) => false,
             Ok(step) => {
                 let _ = self.commands.pop(cache);
                 self.conclude(cache, &step);
-                Stepped::Ran(list_of(step.sent))
+                true
             }
         }
     }
 
     /// A Command.
-    pub(crate) fn command(&mut self, cache: u8) -> Result<Stepped, AllocError>
-        ensures happens { Happens (takes (without_command (state_of self.old) cache) cache (command_taken self.old.config (state_of self.old) cache)) (state_of self.old) (state_of self.new) result }
+    pub(crate) fn command(&mut self, cache: u8) -> Result<bool, AllocError>
+        ensures happens { Happens (takes (without_command (state_of self.old) cache) cache (command_taken self.old.config (state_of self.old) cache)) (state_of self.old) (state_of self.new) self.new.sent.items result }
         ensures config { self.new.config ≡ self.old.config }
     {
         if !has_cache(self.config, cache) {
-            return Ok(Stepped::Disabled);
+            return Ok(false);
         }
         let Some(message) = self.commands.head(cache) else {
-            return Ok(Stepped::Disabled);
+            return Ok(false);
         };
         let message = *message;
         self.reserve_step(cache)?;
@@ -130,38 +130,38 @@ impl Hardware {
     }
 
     /// A cache takes a message, which is the head of the fill channel from another. Room was made.
-    fn take_fill(&mut self, to: u8, from: u8, message: Message) -> Stepped
+    fn take_fill(&mut self, to: u8, from: u8, message: Message) -> bool
         requires to { to < self.old.config.caches }
         requires from { from < self.old.config.caches }
         requires head { first ((state_of self.old).fill to from) ≡ Some message }
         requires within { IsWithin self.old.config message }
         requires room { HasRoomFor self.old to }
-        ensures happens { Answers (takes (without_fill (state_of self.old) to from) to (fill_taken self.old.config (state_of self.old) to from)) (state_of self.old) (state_of self.new) result }
+        ensures happens { Answers (takes (without_fill (state_of self.old) to from) to (fill_taken self.old.config (state_of self.old) to from)) (state_of self.old) (state_of self.new) self.new.sent.items result }
         ensures config { self.new.config ≡ self.old.config }
     {
         match self.caches.fill(to, &message) {
-            Err(_) => Stepped::Disabled,
+            Err(_) => false,
             Ok(step) => {
                 let _ = self.fills.pop(fill_place(to, from));
                 self.conclude(to, &step);
-                Stepped::Ran(list_of(step.sent))
+                true
             }
         }
     }
 
     /// A Fill.
-    pub(crate) fn fill(&mut self, to: u8, from: u8) -> Result<Stepped, AllocError>
-        ensures happens { Happens (takes (without_fill (state_of self.old) to from) to (fill_taken self.old.config (state_of self.old) to from)) (state_of self.old) (state_of self.new) result }
+    pub(crate) fn fill(&mut self, to: u8, from: u8) -> Result<bool, AllocError>
+        ensures happens { Happens (takes (without_fill (state_of self.old) to from) to (fill_taken self.old.config (state_of self.old) to from)) (state_of self.old) (state_of self.new) self.new.sent.items result }
         ensures config { self.new.config ≡ self.old.config }
     {
         if !has_cache(self.config, to) {
-            return Ok(Stepped::Disabled);
+            return Ok(false);
         }
         if !has_cache(self.config, from) {
-            return Ok(Stepped::Disabled);
+            return Ok(false);
         }
         let Some(message) = self.fills.head(fill_place(to, from)) else {
-            return Ok(Stepped::Disabled);
+            return Ok(false);
         };
         let message = *message;
         self.reserve_step(to)?;

@@ -38,9 +38,9 @@ returns-in-Ok-clause-happens c =
     let popped = fill-popped (queue c.args.self.now.fills) (queue c.pop.new.self) c.args.to c.args.from c.fill_place.result to from c.fill_place.ensures.value c.pop.ensures.rest in
     took s (state_of c.conclude.new.self) c.args.to (fill_taken c.args.self.now.config s c.args.to c.args.from) (states_of c.fill.new.self) s.command
     (put s.fill c.args.to (put (s.fill c.args.to) c.args.from (drop 1 (s.fill c.args.to c.args.from))))
-    (states_of c.fill.new.self c.args.to) c.in-Ok.step.sent c.in-Ok.step.done c.in-Ok.step.way c.list_of.result.items
+    (states_of c.fill.new.self c.args.to) c.in-Ok.step.sent c.in-Ok.step.done c.in-Ok.step.way c.conclude.new.self.sent.items
     (fill-row c.args.self.now.config s c.args.to c.args.from c.args.message c.requires.to c.requires.from c.requires.head
     ∙ ap (λ (k : Shape). table.fill k (s.caches c.args.to) c.args.to c.args.message) (sym c.args.self.now.caches_config) ∙ c.in-Ok.ensures.gives)
     c.fill.ensures.others
     (c.conclude.ensures.state ∙ ap (λ (f : ℕ → ℕ → List Row). with_step (record s { caches = states_of c.fill.new.self; fill = f }) c.args.to c.in-Ok.step.sent c.in-Ok.step.done) popped)
-    c.list_of.ensures
+    c.conclude.ensures.sent
