@@ -7,7 +7,7 @@ ghost use Rattle.std.specs.IoError.{error_kind};
 ghost use Rattle.bk_cmd.specs.Outcomes.{is_status};
 
 use bk_cmd::{MEMORY, OK, Outcome, USAGE, fault_line, run_plain};
-use bk_lce::{Victim, oldest};
+use bk_lce::{Victim, WayView, oldest};
 use bk_outer::{FileShelf, StdSink};
 use std::alloc::Global;
 use std::env;
@@ -57,7 +57,7 @@ fn run(rt: &HostRuntime) -> Outcome
                 &words,
                 &mut shelf,
                 &mut sink,
-                Victim::store(oldest),
+                Victim::store(|views: &[WayView]| oldest(views)),
             )
         }
         Err(error) => no_words(rt.alloc(), &error),

@@ -1,7 +1,7 @@
 use super::*;
 use crate::programs::{EI, MESI, MOESIF, MSI, UNCACHED, UNCACHED_KNOWN};
 use bk_check::Refusal;
-use bk_lce::{Victim, oldest};
+use bk_lce::{Victim, WayView, oldest};
 use bk_outer::{MemShelf, MemSink};
 use std::alloc::Global;
 use std::test::Fail;
@@ -69,7 +69,8 @@ pub(crate) fn sink(alloc: Global) -> MemSink {
 
 /// The outcome of a command line, with the oldest way as the victim.
 pub(crate) fn asked(alloc: Global, words: &[String], shelf: &mut MemShelf, sink: &mut MemSink) -> Outcome {
-    run_plain(alloc, words, shelf, sink, Victim::store(oldest))
+    let victim = Victim::store(|views: &[WayView]| oldest(views));
+    run_plain(alloc, words, shelf, sink, victim)
 }
 
 fn numbers(outcome: &Outcome) -> [u64; 6] {

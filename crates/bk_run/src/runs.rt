@@ -71,7 +71,7 @@ fn make_events<F: Fn(&[WayView]) -> u8 + Copy + Send>(
         let Some(event) = least_of(&hardware, victim, program, trace) else {
             return Ok(Made { hardware, events });
         };
-        match hardware.happen(program, &event) {
+        match hardware.step(program, &event) {
             Ok(_) => {}
             Err(e) => return Err(e),
         }

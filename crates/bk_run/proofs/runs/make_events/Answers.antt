@@ -16,7 +16,7 @@ loop-preserved g c =
     let p = c.args.program.now in
     let event : Event = c.in-Some.event in
     let policy : List WayView → ℕ → Type 0 = FnReturnsAt g.F.Fn c.args.victim.now.pick in
-    let next : state_of c.happen.new.self ≡ after k p (state_of c.loop.hardware) event = c.in-Ok.ensures.state ∙ ap (λ (z : Shape). after z p (state_of c.loop.hardware) event) c.loop.invariant.config in
+    let next : state_of c.step.new.self ≡ after k p (state_of c.loop.hardware) event = c.in-Ok.ensures.state ∙ ap (λ (z : Shape). after z p (state_of c.loop.hardware) event) c.loop.invariant.config in
     let least : IsLeast policy k p (run k p c.loop.events.items) c.args.trace.now.lines event =
     subst (λ (s : State). IsLeast policy k p s c.args.trace.now.lines event) c.loop.invariant.state
     (subst (λ (z : Shape). IsLeast policy z p (state_of c.loop.hardware) c.args.trace.now.lines event) c.loop.invariant.config c.in-Some.ensures) in
