@@ -69,10 +69,12 @@ only_pop_marks k n f e = marks-not k n f e
 
 -- a head that is popped with `wp` marks its group
 marked : (k : Shape) (n : EngineState) (head : Head) (bit : Bool) → n.core.head ≡ Some head
-    → message_marked k n.directory (head_number head.message) head.message ≡ with_pending n.directory (group_of k (address_of head.message)) bit → IsMarked k n head bit
+    → message_marked k n.directory (head_number head.message) head.message ≡ with_pending n.directory (group_of k (address_of head.message)) bit
+    → IsMarked k n head bit
 marked k n head bit e m =
     let g : ℕ = group_of k (address_of head.message) in
-    let after : head_marked k n.directory n.core.head ≡ with_pending n.directory g bit = ap (λ (o : Option Head). head_marked k n.directory o) e ∙ m in
+    let after : head_marked k n.directory n.core.head ≡ with_pending n.directory g bit = ap (λ (o : Option Head). head_marked k n.directory o) e
+    ∙ m in
     record {
       own = ap (λ (x : Contents). x.pending g) after ∙ put-at n.directory.pending g bit;
       others = λ h ne. ap (λ (x : Contents). x.pending h) after ∙ put-other n.directory.pending g bit h ne;
@@ -91,7 +93,8 @@ coh_ack_marks k n head e i =
 message-entries : (k : Shape) (d : Contents) (kind : ℕ) (m : Row) → (message_marked k d kind m).entries ≡ d.entries
 message-entries k d kind m =
     let g : ℕ = group_of k (address_of m) in
-    cond_both (kind == 1) (with_pending d g true) (if nat_lt 1 kind && nat_lt kind 6 then with_pending d g false else d) (λ (x : Contents). x.entries ≡ d.entries) (λ e. refl)
+    cond_both (kind == 1) (with_pending d g true) (if nat_lt 1 kind && nat_lt kind 6 then with_pending d g false else d)
+    (λ (x : Contents). x.entries ≡ d.entries) (λ e. refl)
     (λ e. cond_both (nat_lt 1 kind && nat_lt kind 6) (with_pending d g false) d (λ (x : Contents). x.entries ≡ d.entries) (λ i. refl) (λ i. refl))
 
 head-entries : (k : Shape) (d : Contents) (o : Option Head) → (head_marked k d o).entries ≡ d.entries
@@ -140,7 +143,8 @@ halts_for_good k n program reason first next offered later e = at-again k n (sli
 
 -- INVALIDATIONS
 
-each-of : (held : Held) (w : Bool) (s : Summary) (n : ℕ) → All (λ m. m ≡ rows.Inv ENGINE (receiver_of m) (block_start held.addr)) (join_below n (inv_to held w s))
+each-of : (held : Held) (w : Bool) (s : Summary) (n : ℕ)
+    → All (λ m. m ≡ rows.Inv ENGINE (receiver_of m) (block_start held.addr)) (join_below n (inv_to held w s))
 each-of held w s zero = All-nil (λ m. m ≡ rows.Inv ENGINE (receiver_of m) (block_start held.addr))
 each-of held w s (suc n) =
     let P : Row → Type 0 = λ m. m ≡ rows.Inv ENGINE (receiver_of m) (block_start held.addr) in
@@ -165,15 +169,18 @@ one-more c n x y false true same e i = grind (arith, nat_tests)
 one-more c n x y false false same e i = grind (arith, nat_tests)
 
 -- a cache below n is sent one where it is chosen, and any other none
-counts-below : (held : Held) (w : Bool) (s : Summary) (c n : ℕ) → count_to c (join_below n (inv_to held w s)) ≡ cond (nat_lt c n && is_invalidated w s c) 1 0
-counts-below held w s c zero = sym (cond-false (nat_lt c 0 && is_invalidated w s c) 1 0 (and_left (nat_lt c 0) (is_invalidated w s c) (le-ltb c 0 (omega arith))))
+counts-below : (held : Held) (w : Bool) (s : Summary) (c n : ℕ)
+    → count_to c (join_below n (inv_to held w s)) ≡ cond (nat_lt c n && is_invalidated w s c) 1 0
+counts-below held w s c zero =
+    sym (cond-false (nat_lt c 0 && is_invalidated w s c) 1 0 (and_left (nat_lt c 0) (is_invalidated w s c) (le-ltb c 0 (omega arith))))
 counts-below held w s c (suc n) =
     sum_by-append (λ m. cond (receiver_of m == c) 1 0) (join_below n (inv_to held w s)) (inv_to held w s n)
     ∙ one-more c n (count_to c (join_below n (inv_to held w s))) (count_to c (inv_to held w s n)) (is_invalidated w s c) (is_invalidated w s n)
     (λ e. ap (λ i. is_invalidated w s i) e) (counts-below held w s c n) (one-count held w s c n)
 
 -- what `inv` sends, for a held request
-inv-list : (k : Shape) (n : EngineState) (held : Held) (a : ℕ) → n.core.held ≡ Some held → sends k n (Inv a) ≡ invs k held (a == 1) (summary_for k n.directory held)
+inv-list : (k : Shape) (n : EngineState) (held : Held) (a : ℕ) → n.core.held ≡ Some held
+    → sends k n (Inv a) ≡ invs k held (a == 1) (summary_for k n.directory held)
 inv-list k n held a e = ap (λ (o : Option Held). sends_held k n o (Inv a)) e
 
 not-asker : (o : Option (ℕ × ℕ)) (c : ℕ) → ((at : ℕ × ℕ) → o ≡ Some at → at.0 ≢ c) → is_owner o c ≡ false
@@ -191,7 +198,8 @@ asker-not k d held w l =
     or_from (has_bit s.others held.source) (w && is_owner s.owner held.source) bit
     (and_right w (is_owner s.owner held.source) (not-asker s.owner held.source (λ at e. (owner-within k d (asked_of k held) at e).is_other)))
 
-asker-uncounted : (k : Shape) (d : Contents) (held : Held) (w : Bool) → (nat_lt held.source k.caches && is_invalidated w (summary_for k d held) held.source) ≡ false
+asker-uncounted : (k : Shape) (d : Contents) (held : Held) (w : Bool)
+    → (nat_lt held.source k.caches && is_invalidated w (summary_for k d held) held.source) ≡ false
 asker-uncounted k d held w = elim (cases_lt held.source k.caches) [
   | inl l ↦ and_right (nat_lt held.source k.caches) (is_invalidated w (summary_for k d held) held.source) (asker-not k d held w l)
   | inr g ↦ and_left (nat_lt held.source k.caches) (is_invalidated w (summary_for k d held) held.source) (le-ltb held.source k.caches g)
@@ -212,7 +220,8 @@ wiped-gone : (tag : ℕ) (entry : Entry) → Holds (wiped tag entry) tag → ⊥
 wiped-gone tag entry =
     cond_both (holds entry tag) (record entry { state = I }) entry (λ (x : Entry). Holds x tag → ⊥)
     (λ e. λ h. let wrong : false ≡ true = h.is_valid in cc)
-    (λ e. λ h. let right : holds entry tag ≡ true = and_from (is_readable entry.state) (entry.tag == tag) h.is_valid (eq-eqb entry.tag tag h.is_tag) in cc)
+    (λ e. λ h.
+    let right : holds entry tag ≡ true = and_from (is_readable entry.state) (entry.tag == tag) h.is_valid (eq-eqb entry.tag tag h.is_tag) in cc)
 
 -- nor does any way of a cache that is sent an invalidation
 wiped-entries : (k : Shape) (d : Contents) (held : Held) (w : Bool) (s : Summary) (c v : ℕ) → is_invalidated w s c ≡ true → v < k.ways
@@ -229,10 +238,12 @@ reached : (k : Shape) (n : EngineState) (held : Held) (a c : ℕ) → n.core.hel
     → is_invalidated (a == 1) (summary_for k n.directory held) c ≡ true → IsInvalidated k n held a c
 reached k n held a c e l on =
     let s = summary_for k n.directory held in
-    let after : directory_after k n (Inv a) ≡ invalidates k n.directory held (a == 1) s = ap (λ (o : Option Held). directory_held k n.directory o (Inv a)) e in
+    let after : directory_after k n (Inv a) ≡ invalidates k n.directory held (a == 1) s =
+    ap (λ (o : Option Held). directory_held k n.directory o (Inv a)) e in
     record {
       once = ap (λ xs. count_to c xs) (inv-list k n held a e) ∙ counts-below held (a == 1) s c k.caches
-          ∙ cond-true (nat_lt c k.caches && is_invalidated (a == 1) s c) 1 0 (and_from (nat_lt c k.caches) (is_invalidated (a == 1) s c) (lt-ltb c k.caches l) on);
+          ∙ cond-true (nat_lt c k.caches && is_invalidated (a == 1) s c) 1 0
+          (and_from (nat_lt c k.caches) (is_invalidated (a == 1) s c) (lt-ltb c k.caches l) on);
       gone = λ v i h. wiped-gone (tag_at k held.addr) (n.directory.entries c (group_of k held.addr) v)
           (subst (λ (x : Entry). Holds x (tag_at k held.addr))
           (ap (λ (x : Contents). x.entries c (group_of k held.addr) v) after ∙ wiped-entries k n.directory held (a == 1) s c v on i) h);

@@ -48,20 +48,23 @@ inv_to-outward k held with_owner s c l =
     cond_both (is_invalidated with_owner s c) (rows.Inv ENGINE c (block_start held.addr) ∷ []) [] (λ xs. All (IsOutward k) xs)
     (λ e. (one k _ (record { within = l; network = inl refl }))) (λ e. none k)
 
-invs-below : (k : Shape) (held : Held) (with_owner : Bool) (s : Summary) (n : ℕ) → n ≤ k.caches → All (IsOutward k) (join_below n (inv_to held with_owner s))
+invs-below : (k : Shape) (held : Held) (with_owner : Bool) (s : Summary) (n : ℕ) → n ≤ k.caches
+    → All (IsOutward k) (join_below n (inv_to held with_owner s))
 invs-below k held with_owner s zero l = none k
 invs-below k held with_owner s (suc n) l =
     All-append (IsOutward k) (join_below n (inv_to held with_owner s)) (inv_to held with_owner s n)
     (invs-below k held with_owner s n (omega arith)) (inv_to-outward k held with_owner s n (omega arith))
 
-flush_to-outward : (k : Shape) (at : Option (ℕ × ℕ)) (state : Coh) (addr : ℕ) → ((a : ℕ × ℕ) → at ≡ Some a → a.0 < k.caches) → All (IsOutward k) (flush_to at state addr)
+flush_to-outward : (k : Shape) (at : Option (ℕ × ℕ)) (state : Coh) (addr : ℕ) → ((a : ℕ × ℕ) → at ≡ Some a → a.0 < k.caches)
+    → All (IsOutward k) (flush_to at state addr)
 flush_to-outward k None state addr l = none k
 flush_to-outward k (Some at) state addr l = one k _ (record { within = l at refl; network = inl refl })
 
 owner-cache : (k : Shape) (d : Contents) (held : Held) (at : ℕ × ℕ) → (summary_for k d held).owner ≡ Some at → at.0 < k.caches
 owner-cache k d held at e = (owner-within k d (asked_of k held) at e).cache_within
 
-flushes-outward : (k : Shape) (d : Contents) (held : Held) (who : ℕ) (state : Coh) → held.source < k.caches → All (IsOutward k) (flushes k d held who state)
+flushes-outward : (k : Shape) (d : Contents) (held : Held) (who : ℕ) (state : Coh) → held.source < k.caches
+    → All (IsOutward k) (flushes k d held who state)
 flushes-outward k d held who state l =
     let own : List Row = rows.StWb ENGINE held.source state (block_start held.addr) ∷ [] in
     let owners : List Row = flush_to (summary_for k d held).owner state held.addr in
@@ -72,12 +75,14 @@ flushes-outward k d held who state l =
     (λ i. flush_to-outward k (summary_for k d held).owner state held.addr (λ at j. owner-cache k d held at j))
     (λ i. one k _ (record { within = l; network = inl refl })))
 
-transfer_to-outward : (k : Shape) (held : Held) (at : Option (ℕ × ℕ)) (a b : Coh) → IsWay k held.source held.way → ((o : ℕ × ℕ) → at ≡ Some o → o.0 < k.caches)
+transfer_to-outward : (k : Shape) (held : Held) (at : Option (ℕ × ℕ)) (a b : Coh) → IsWay k held.source held.way
+    → ((o : ℕ × ℕ) → at ≡ Some o → o.0 < k.caches)
     → All (IsOutward k) (transfer_to held at a b)
 transfer_to-outward k held None a b w l = none k
 transfer_to-outward k held (Some at) a b w l = one k _ (record { within = (l at refl, w); network = inl refl })
 
-grants-outward : (k : Shape) (held : Held) (state : Coh) (got : Option (List ℕ)) → IsWay k held.source held.way → All (IsOutward k) (grants held state got)
+grants-outward : (k : Shape) (held : Held) (state : Coh) (got : Option (List ℕ)) → IsWay k held.source held.way
+    → All (IsOutward k) (grants held state got)
 grants-outward k held state None w = none k
 grants-outward k held state (Some words) w = one k _ (record { within = w; network = inl refl })
 
@@ -92,7 +97,8 @@ back-outward k (Some kept) = one k _ (record { within = tt; network = inr refl }
 for-outward : (k : Shape) (n : EngineState) (held : Held) (f : Form) → IsWay k held.source held.way → All (IsOutward k) (sends_for k n held f)
 for-outward k n held (Inv a) w = invs-below k held (a == 1) (summary_for k n.directory held) k.caches (omega arith)
 for-outward k n held (Stwb who state) w = flushes-outward k n.directory held who state w.cache
-for-outward k n held (Tr a b) w = transfer_to-outward k held (summary_for k n.directory held).owner a b w (λ at j. owner-cache k n.directory held at j)
+for-outward k n held (Tr a b) w =
+    transfer_to-outward k held (summary_for k n.directory held).owner a b w (λ at j. owner-cache k n.directory held at j)
 for-outward k n held (Blk state) w = grants-outward k held state n.core.got w
 for-outward k n held Wake w = one k _ (record { within = w; network = inl refl })
 for-outward k n held Ucblk w = word-outward k held n.core.got w.cache
@@ -102,7 +108,8 @@ for-outward k n held Memrd w = one k _ (record { within = tt; network = inr refl
 for-outward k n held Memww w = one k _ (record { within = tt; network = inr refl })
 for-outward k n held f w = none k
 
-held-outward : (k : Shape) (n : EngineState) (o : Option Held) (f : Form) → ((h : Held) → o ≡ Some h → IsWay k h.source h.way) → All (IsOutward k) (sends_held k n o f)
+held-outward : (k : Shape) (n : EngineState) (o : Option Held) (f : Form) → ((h : Held) → o ≡ Some h → IsWay k h.source h.way)
+    → All (IsOutward k) (sends_held k n o f)
 held-outward k n None f w = none k
 held-outward k n (Some held) f w = for-outward k n held f (w held refl)
 

@@ -22,15 +22,20 @@ way-of : (k : Shape) (h : Held) (source way : ℕ) → source < k.caches → way
 way-of k h source way l w e i = record { cache = rw e l; way = rw i w }
 
 -- the request of a message has a way of the configuration
-request-way : (k : Shape) (source : ℕ) (m : Row) (h : Held) → 0 < k.ways → source < k.caches → IsWithin k m → request_of source m ≡ Some h → IsWay k h.source h.way
-request-way k source (rows.Rd _ _ way addr) h few l w i = let e : h.source ≡ source = cc in let j : h.way ≡ way = cc in way-of k h source way l w.way e j
-request-way k source (rows.Wr _ _ way addr) h few l w i = let e : h.source ≡ source = cc in let j : h.way ≡ way = cc in way-of k h source way l w.way e j
+request-way : (k : Shape) (source : ℕ) (m : Row) (h : Held) → 0 < k.ways → source < k.caches → IsWithin k m → request_of source m ≡ Some h
+    → IsWay k h.source h.way
+request-way k source (rows.Rd _ _ way addr) h few l w i =
+    let e : h.source ≡ source = cc in let j : h.way ≡ way = cc in way-of k h source way l w.way e j
+request-way k source (rows.Wr _ _ way addr) h few l w i =
+    let e : h.source ≡ source = cc in let j : h.way ≡ way = cc in way-of k h source way l w.way e j
 request-way k source (rows.UcRd _ _ addr) h few l w i = let e : h.source ≡ source = cc in let j : h.way ≡ 0 = cc in way-of k h source 0 l few e j
 request-way k source (rows.UcWr _ _ addr word) h few l w i = let e : h.source ≡ source = cc in let j : h.way ≡ 0 = cc in way-of k h source 0 l few e j
-request-way k source (rows.Evict _ _ way addr) h few l w i = let e : h.source ≡ source = cc in let j : h.way ≡ way = cc in way-of k h source way l w.way e j
+request-way k source (rows.Evict _ _ way addr) h few l w i =
+    let e : h.source ≡ source = cc in let j : h.way ≡ way = cc in way-of k h source way l w.way e j
 request-way k source m h few l w i = absurd (cc)
 
-took-sound : (k : Shape) (e : Core) (o : Option Held) (m : Row) → IsSound k e → ((h : Held) → o ≡ Some h → IsWay k h.source h.way) → IsSound k (took e o m)
+took-sound : (k : Shape) (e : Core) (o : Option Held) (m : Row) → IsSound k e → ((h : Held) → o ≡ Some h → IsWay k h.source h.way)
+    → IsSound k (took e o m)
 took-sound k e (Some held) m b l = record { head = b.head; held = λ h i. l h i }
 took-sound k e None (rows.InvAck _ _ _) b l = record { head = b.head; held = b.held }
 took-sound k e None (rows.Wb _ _ _ _) b l = record { head = b.head; held = b.held }
@@ -45,11 +50,13 @@ popped-sound k e (Some head) few i b =
     (record { head = λ h j. absurd (cc); held = b.held })
     (λ r j. request-way k head.choice.source head.message r few h.source h.within j)
 
-waited-sound : (k : Shape) (e : Core) (choice : Choice) (o : Option Row) → choice.source < k.caches → ((m : Row) → o ≡ Some m → IsWithin k m) → IsSound k e
+waited-sound : (k : Shape) (e : Core) (choice : Choice) (o : Option Row) → choice.source < k.caches → ((m : Row) → o ≡ Some m → IsWithin k m)
+    → IsSound k e
     → IsSound k (waited e choice o)
 waited-sound k e choice None l w b = b
 waited-sound k e choice (Some m) l w b = record {
-  head = λ h i. let same : record { choice = choice; message = m } ≡ h = cc in subst (λ (x : Head). IsHead k x) same (record { source = l; within = w m refl });
+  head = λ h i. let same : record { choice = choice; message = m } ≡ h = cc in
+      subst (λ (x : Head). IsHead k x) same (record { source = l; within = w m refl });
   held = b.held;
 }
 

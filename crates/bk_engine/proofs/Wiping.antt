@@ -92,7 +92,8 @@ ways-more n d c s tag now same =
 
 pub caches-none : (k : Shape) (chosen : ℕ → Bool) (d : Contents) (s tag : ℕ) → d ≡ caches_wiped_below k 0 chosen d s tag
 caches-none k chosen d s tag = ap (λ (e : ℕ → ℕ → ℕ → Entry). record d { entries = e })
-    (fun_ext (λ c. sym (cond-false (nat_lt c 0 && chosen c) (put (d.entries c) s (wiped_at k tag (d.entries c s))) (d.entries c) (and_left (nat_lt c 0) (chosen c) (le-ltb c 0 (omega arith))))))
+    (fun_ext (λ c. sym (cond-false (nat_lt c 0 && chosen c) (put (d.entries c) s (wiped_at k tag (d.entries c s))) (d.entries c)
+    (and_left (nat_lt c 0) (chosen c) (le-ltb c 0 (omega arith))))))
 
 -- one cache more that isn't chosen
 pub caches-passed : (k : Shape) (n : ℕ) (chosen : ℕ → Bool) (d : Contents) (s tag : ℕ) → chosen n ≡ false
@@ -105,7 +106,8 @@ caches-passed k n chosen d s tag off = ap (λ (e : ℕ → ℕ → ℕ → Entry
     ])))
 
 -- one cache more that is chosen
-pub caches-more : (k : Shape) (n : ℕ) (chosen : ℕ → Bool) (d : Contents) (s tag : ℕ) (now : Contents) → chosen n ≡ true → now ≡ caches_wiped_below k n chosen d s tag
+pub caches-more : (k : Shape) (n : ℕ) (chosen : ℕ → Bool) (d : Contents) (s tag : ℕ) (now : Contents) → chosen n ≡ true
+    → now ≡ caches_wiped_below k n chosen d s tag
     → ways_wiped k now n s tag ≡ caches_wiped_below k (n + 1) chosen d s tag
 caches-more k n chosen d s tag now on same =
     let f : ℕ → ℕ → ℕ → Entry = λ c. cond (nat_lt c n && chosen c) (put (d.entries c) s (wiped_at k tag (d.entries c s))) (d.entries c) in
@@ -129,7 +131,8 @@ beyond n c chosen none = elim (cases_lt c n) [
 
 -- all caches, where none beyond them is chosen
 pub caches-all : (k : Shape) (n : ℕ) (chosen : ℕ → Bool) (d : Contents) (s tag : ℕ) → ((c : ℕ) → n ≤ c → chosen c ≡ false)
-    → caches_wiped_below k n chosen d s tag ≡ record d { entries = λ c. if chosen c then put (d.entries c) s (wiped_at k tag (d.entries c s)) else d.entries c }
+    → caches_wiped_below k n chosen d s tag
+    ≡ record d { entries = λ c. if chosen c then put (d.entries c) s (wiped_at k tag (d.entries c s)) else d.entries c }
 caches-all k n chosen d s tag none = ap (λ (e : ℕ → ℕ → ℕ → Entry). record d { entries = e })
     (fun_ext (λ c. ap (λ b. cond b (put (d.entries c) s (wiped_at k tag (d.entries c s))) (d.entries c)) (beyond n c chosen none)))
 
@@ -156,5 +159,11 @@ pub invalidates-all : (k : Shape) (d : Contents) (held : Held) (with_owner : Boo
     → now ≡ caches_wiped_below k n (is_invalidated with_owner sm) d s tag → now ≡ invalidates k d held with_owner sm
 invalidates-all k d held with_owner sm n s tag now le others owner set block same =
     same ∙ caches-all k n (is_invalidated with_owner sm) d s tag (λ c l. not_invalidated with_owner sm k.caches c others owner (omega arith))
-    ∙ ap (λ (g : ℕ). record d { entries = λ c. if is_invalidated with_owner sm c then put (d.entries c) g (wiped_at k tag (d.entries c g)) else d.entries c }) set
-    ∙ ap (λ (t : ℕ). record d { entries = λ c. if is_invalidated with_owner sm c then put (d.entries c) (group_of k held.addr) (wiped_at k t (d.entries c (group_of k held.addr))) else d.entries c }) block
+    ∙ ap (λ (g : ℕ). record d {
+      entries = λ c. if is_invalidated with_owner sm c then
+          put (d.entries c) g (wiped_at k tag (d.entries c g)) else d.entries c;
+    }) set
+    ∙ ap (λ (t : ℕ). record d {
+      entries = λ c. if is_invalidated with_owner sm c then
+          put (d.entries c) (group_of k held.addr) (wiped_at k t (d.entries c (group_of k held.addr))) else d.entries c;
+    }) block

@@ -1,5 +1,6 @@
 pub mod Changes
 pub mod Core
+pub mod EngineOf
 pub mod Engines
 pub mod Heads
 pub mod Into

@@ -19,4 +19,5 @@ ways_wiped_below n d c s tag = record d { entries = put d.entries c (put (d.entr
 
 -- the entries of a block, of each cache below n that is chosen
 abbrev pub caches_wiped_below : Shape → ℕ → (ℕ → Bool) → Contents → ℕ → ℕ → Contents
-caches_wiped_below k n chosen d s tag = record d { entries = λ c. if nat_lt c n && chosen c then put (d.entries c) s (wiped_at k tag (d.entries c s)) else d.entries c }
+caches_wiped_below k n chosen d s tag =
+    record d { entries = λ c. if nat_lt c n && chosen c then put (d.entries c) s (wiped_at k tag (d.entries c s)) else d.entries c }

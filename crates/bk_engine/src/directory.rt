@@ -4,6 +4,7 @@ ghost use Rattle.bk_msg.specs.Within.{IsWay};
 ghost use Rattle.bk_dir.specs.Contents.{with_entry};
 ghost use Rattle.bk_dir.specs.Directories.{contents_of};
 ghost use Rattle.bk_engine.specs.Heads.{head_number};
+ghost use Rattle.bk_engine.specs.EngineOf.{engine_of};
 ghost use Rattle.bk_engine.specs.Kept.{IsSound};
 ghost use Rattle.bk_engine.specs.Changes.{wiped, invalidates, state_written, named_written, directory_for, directory_held, message_marked, head_marked, directory_after};
 ghost use Rattle.bk_engine.specs.Wiping.{ways_wiped};
@@ -106,7 +107,9 @@ fn write_named(config: Config, directory: &mut Directory, held: &Held, who: u8, 
 fn write_own(config: Config, directory: &mut Directory, held: &Held, state: Coh)
     requires config { directory.old.config ≡ config }
     requires way { IsWay config held.now.source held.now.way }
-    ensures state { contents_of directory.new ≡ with_entry (contents_of directory.old) held.now.source (group_of config held.now.addr) held.now.way (record { tag = tag_at config held.now.addr; state = state }) }
+    ensures state { contents_of directory.new
+        ≡ with_entry (contents_of directory.old) held.now.source (group_of config held.now.addr) held.now.way
+        (record { tag = tag_at config held.now.addr; state = state }) }
     ensures config { directory.new.config ≡ config }
 {
     let group = group_of(config, held.addr);
@@ -174,7 +177,7 @@ fn mark_head(config: Config, directory: &mut Directory, head: &Option<Head>)
 pub(crate) fn change_directory(config: Config, core: &Core, directory: &mut Directory, form: Form)
     requires config { directory.old.config ≡ config }
     requires sound { IsSound config core.now }
-    ensures state { contents_of directory.new ≡ directory_after config (record { core = core.now; directory = contents_of directory.old }) form }
+    ensures state { contents_of directory.new ≡ directory_after config (engine_of core.now directory.old) form }
     ensures config { directory.new.config ≡ config }
 {
     match form {

@@ -83,7 +83,8 @@ impl Engine {
         requires few { length program.now ≤ 256 }
         requires source { choice.source < self.old.config.caches }
         requires within { (m : Row) → option_copied head ≡ Some m → IsWithin self.old.config m }
-        ensures step { IsStep self.old.config program.now choice (option_copied head.entry) (state_of self.old) (state_of self.new) result }
+        ensures step { IsStep self.old.config program.now choice (option_copied head.entry)
+            (state_of self.old) (state_of self.new) result }
         // Each message that is sent goes to a cache or the memory, and is of the configuration.
         ensures within { SendsWithin self.old.config result }
         ensures popped { PopsWithin self.old.config result }
@@ -110,7 +111,8 @@ impl Engine {
         requires source { choice.source < self.old.config.caches }
         requires within { (m : Row) → option_copied head ≡ Some m → IsWithin self.old.config m }
         requires empty { sent.old.items ≡ [] }
-        ensures step { IsStep self.old.config program.now choice (option_copied head.entry) (state_of self.old) (state_of self.new) (with_sent sent.new result) }
+        ensures step { IsStep self.old.config program.now choice (option_copied head.entry)
+            (state_of self.old) (state_of self.new) (with_sent sent.new result) }
         ensures within { SendsWithin self.old.config (with_sent sent.new result) }
         ensures popped { PopsWithin self.old.config (with_sent sent.new result) }
         ensures sent { SendsWhereRan sent.new result }

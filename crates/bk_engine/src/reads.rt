@@ -2,6 +2,7 @@ ghost use Rattle.std.specs.Prelude.{◌≡◌, ◌<◌, ◌^◌, IfSome};
 ghost use Rattle.bk_isa.specs.Operands.{Operands};
 ghost use Rattle.bk_msg.specs.Within.{IsWay};
 ghost use Rattle.bk_dir.specs.Directories.{contents_of};
+ghost use Rattle.bk_engine.specs.EngineOf.{engine_of};
 ghost use Rattle.bk_engine.specs.Kept.{IsSound};
 ghost use Rattle.bk_engine.specs.Reads.{asked_of, summary_for, is_heavy, has_own, has_owner, has_victim, flag, number_of, gp_value, kind_value, own_number, owner_number, summary_value, held_value, field_value, goes, target};
 
@@ -180,7 +181,7 @@ fn held_value(config: Config, core: &Core, directory: &Directory, field: u8) -> 
 fn field_value(config: Config, core: &Core, directory: &Directory, field: u8) -> u8
     requires config { directory.now.config ≡ config }
     requires sound { IsSound config core.now }
-    ensures value { result ≡ field_value config (record { core = core.now; directory = contents_of directory.now }) field }
+    ensures value { result ≡ field_value config (engine_of core.now directory.now) field }
     ensures small { result < 8 }
 {
     match field {
@@ -198,7 +199,7 @@ pub(crate) fn goes(config: Config, core: &Core, directory: &Directory, form: For
     requires config { directory.now.config ≡ config }
     requires sound { IsSound config core.now }
     requires form { Operands form }
-    ensures { result ≡ goes config (record { core = core.now; directory = contents_of directory.now }) form }
+    ensures { result ≡ goes config (engine_of core.now directory.now) form }
 {
     let registers = &core.registers;
     match form {

@@ -1,6 +1,7 @@
 ghost use Rattle.std.specs.Prelude.{◌≡◌, ◌<◌, ◌≤◌, [], true, IfSome};
 ghost use Rattle.bk_msg.specs.Within.{IsWay};
 ghost use Rattle.bk_dir.specs.Directories.{contents_of};
+ghost use Rattle.bk_engine.specs.EngineOf.{engine_of};
 ghost use Rattle.bk_engine.specs.Kept.{IsSound};
 ghost use Rattle.bk_engine.specs.Ranges.{HasStates};
 ghost use Rattle.bk_engine.specs.Sends.{is_owner, is_invalidated, invs, flush_to, victim_address, flushes, transfer_to, grants, answers_word, writes_back, sends_for, sends_held, sends};
@@ -168,7 +169,7 @@ fn sends_for(
     requires way { IsWay config held.now.source held.now.way }
     requires states { HasStates form }
     requires empty { sent.old.items ≡ [] }
-    ensures { sent.new.items ≡ sends_for config (record { core = core.now; directory = contents_of directory.now }) held.now form }
+    ensures { sent.new.items ≡ sends_for config (engine_of core.now directory.now) held.now form }
 {
     match form {
         Form::Inv { a } => invs(
@@ -199,7 +200,7 @@ fn sends_held(config: Config, core: &Core, directory: &Directory, form: Form, se
     requires sound { IsSound config core.now }
     requires states { HasStates form }
     requires empty { sent.old.items ≡ [] }
-    ensures { sent.new.items ≡ sends_held config (record { core = core.now; directory = contents_of directory.now }) core.now.held form }
+    ensures { sent.new.items ≡ sends_held config (engine_of core.now directory.now) core.now.held form }
 {
     match &core.held {
         None => (),
@@ -213,7 +214,7 @@ pub(crate) fn sends(config: Config, core: &Core, directory: &Directory, form: Fo
     requires sound { IsSound config core.now }
     requires states { HasStates form }
     requires empty { sent.old.items ≡ [] }
-    ensures { sent.new.items ≡ sends config (record { core = core.now; directory = contents_of directory.now }) form }
+    ensures { sent.new.items ≡ sends config (engine_of core.now directory.now) form }
 {
     match form {
         Form::Memwb => writes_back(&core.dirty, sent),

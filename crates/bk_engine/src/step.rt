@@ -6,6 +6,7 @@ ghost use Rattle.bk_msg.specs.Within.{IsWithin};
 ghost use Rattle.bk_dir.specs.Contents.{Contents};
 ghost use Rattle.bk_dir.specs.Directories.{contents_of};
 ghost use Rattle.bk_engine.specs.Changes.{next_place};
+ghost use Rattle.bk_engine.specs.EngineOf.{engine_of};
 ghost use Rattle.bk_engine.specs.Kept.{IsSound};
 ghost use Rattle.bk_engine.specs.Ranges.{HasStates};
 ghost use Rattle.bk_engine.specs.Outward.{IsOutward};
@@ -28,7 +29,7 @@ fn next_place(config: Config, core: &Core, directory: &Directory, form: Form) ->
     requires sound { IsSound config core.now }
     requires form { Operands form }
     requires place { core.now.place < 256 }
-    ensures { result ≡ next_place config (record { core = core.now; directory = contents_of directory.now }) form }
+    ensures { result ≡ next_place config (engine_of core.now directory.now) form }
 {
     if goes(config, core, directory, form) {
         target(form)
@@ -77,7 +78,8 @@ fn run_form(
     requires source { choice.source < config.caches }
     requires within { (m : Row) → option_copied message ≡ Some m → IsWithin config m }
     requires empty { sent.old.items ≡ [] }
-    ensures ran { ran config (record { core = core.old; directory = contents_of directory.old }) form choice (option_copied message.entry) ≡ record { engine = record { core = core.new; directory = contents_of directory.new }; sent = sent.new.items; popped = result } }
+    ensures ran { ran config (engine_of core.old directory.old) form choice (option_copied message.entry)
+        ≡ record { engine = engine_of core.new directory.new; sent = sent.new.items; popped = result } }
     ensures sound { IsSound config core.new }
     ensures sends { All (IsOutward config) sent.new.items }
     ensures pops { IfSome result (λ popped. popped.source < config.caches) }
@@ -108,9 +110,10 @@ pub(crate) fn run(
     requires ways { 0 < config.ways }
     requires source { choice.source < config.caches }
     requires within { (m : Row) → option_copied message ≡ Some m → IsWithin config m }
-    requires runs { stop_of config (record { core = core.old; directory = contents_of directory.old }) program.now choice (option_copied message) ≡ None }
+    requires runs { stop_of config (engine_of core.old directory.old) program.now choice (option_copied message) ≡ None }
     requires empty { sent.old.items ≡ [] }
-    ensures ran { runs_to config (record { core = core.old; directory = contents_of directory.old }) program.now choice (option_copied message.entry) ≡ record { engine = record { core = core.new; directory = contents_of directory.new }; sent = sent.new.items; popped = result } }
+    ensures ran { runs_to config (engine_of core.old directory.old) program.now choice (option_copied message.entry)
+        ≡ record { engine = engine_of core.new directory.new; sent = sent.new.items; popped = result } }
     ensures sound { IsSound config core.new }
     ensures sends { All (IsOutward config) sent.new.items }
     ensures pops { IfSome result (λ popped. popped.source < config.caches) }

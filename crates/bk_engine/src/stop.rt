@@ -2,6 +2,7 @@ ghost use Rattle.std.specs.Prelude.{◌≡◌, ◌<◌, length};
 ghost use Rattle.std.specs.Option.{option_copied};
 ghost use Rattle.bk_isa.specs.Operands.{Operands};
 ghost use Rattle.bk_dir.specs.Directories.{contents_of};
+ghost use Rattle.bk_engine.specs.EngineOf.{engine_of};
 ghost use Rattle.bk_engine.specs.Kept.{IsSound};
 ghost use Rattle.bk_engine.specs.Stops.{halts_unless, wait_stop, pop_stop, branch_stop, entry_stop, named_entry, block_stop, request_stop, push_stop, directory_stop, form_stop, stop_of};
 
@@ -151,7 +152,7 @@ fn push_stop(core: &Core, form: Form) -> Option<Stop>
 fn directory_stop(config: Config, core: &Core, directory: &Directory, form: Form) -> Option<Stop>
     requires config { directory.now.config ≡ config }
     requires sound { IsSound config core.now }
-    ensures { result ≡ directory_stop config (record { core = core.now; directory = contents_of directory.now }) form }
+    ensures { result ≡ directory_stop config (engine_of core.now directory.now) form }
 {
     match form {
         Form::Rdw => request_stop(core),
@@ -176,7 +177,7 @@ fn form_stop(
 ) -> Option<Stop>
     requires config { directory.now.config ≡ config }
     requires sound { IsSound config core.now }
-    ensures { result ≡ form_stop config (record { core = core.now; directory = contents_of directory.now }) form choice (option_copied message.entry) }
+    ensures { result ≡ form_stop config (engine_of core.now directory.now) form choice (option_copied message.entry) }
 {
     match form {
         Form::Mova { .. } => request_stop(core),
@@ -203,7 +204,7 @@ pub(crate) fn stop_of(
 ) -> Option<Stop>
     requires config { directory.now.config ≡ config }
     requires sound { IsSound config core.now }
-    ensures { result ≡ stop_of config (record { core = core.now; directory = contents_of directory.now }) program.now choice (option_copied message.entry) }
+    ensures { result ≡ stop_of config (engine_of core.now directory.now) program.now choice (option_copied message.entry) }
 {
     match program.get(core.place as usize) {
         None => Some(Stop::Halts(Halt::NoInstruction)),

@@ -8,5 +8,6 @@ use Rattle.bk_engine.proofs.directory.invalidate.Given as goal
 abbrev pub invariant-loop-cache : goal.invariant-loop-cache
 invariant-loop-cache l = record {
   config : l.directory.config ≡ l.fn.config;
-  state : contents_of l.directory ≡ caches_wiped_below l.fn.config l.cache (is_invalidated l.with_owner l.summary) (contents_of l.initial.directory) l.group l.tag;
+  state : contents_of l.directory
+      ≡ caches_wiped_below l.fn.config l.cache (is_invalidated l.with_owner l.summary) (contents_of l.initial.directory) l.group l.tag;
 }

@@ -16,5 +16,6 @@ loop-way-preserved c = record {
   state = c.write_entry.ensures.state
       ∙ ap (λ (x : Entry). with_entry (contents_of c.loop-way.directory) c.args.cache c.args.set c.loop-way.way x)
       (c.wiped.ensures.value ∙ ap (λ (x : Entry). wiped c.args.tag x) c.entry-entry.ensures.value)
-      ∙ ways-more c.loop-way.way (contents_of c.args.directory.now) c.args.cache c.args.set c.args.tag (contents_of c.loop-way.directory) c.loop-way.invariant.state;
+      ∙ ways-more c.loop-way.way (contents_of c.args.directory.now) c.args.cache c.args.set c.args.tag
+      (contents_of c.loop-way.directory) c.loop-way.invariant.state;
 }

@@ -7,7 +7,8 @@ use Rattle.bk_engine.proofs.step.run_form.Goals as goal
 
 pub returns-clause-sound : goal.returns-clause-sound
 returns-clause-sound c =
-    sound_after c.args.config c.args.core.now c.change_core.new.core c.len.result c.args.form c.args.choice (option_copied c.args.message) c.next_place-next.result
+    sound_after c.args.config c.args.core.now c.change_core.new.core c.len.result c.args.form c.args.choice
+    (option_copied c.args.message) c.next_place-next.result
     c.requires.ways c.requires.source c.requires.within c.requires.sound c.change_core.ensures
 
 pub returns-clause-pops : goal.returns-clause-pops
