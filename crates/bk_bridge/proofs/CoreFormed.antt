@@ -120,7 +120,7 @@ core-formed : (k : Shape) (n : EngineState) (f : Form) (choice : Choice) (messag
     → FormedCore (core_after k n f choice message)
 core-formed k n f choice message h w =
     let new : FormedCore (core_changed n.core (length (sends k n f)) f choice message)
-        = changed-formed n.core (length (sends k n f)) f choice message h w in
+    = changed-formed n.core (length (sends k n f)) f choice message h w in
     record { head = new.head; held = new.held; dirty = new.dirty; got = new.got }
 
 -- THE ENGINE

@@ -52,7 +52,12 @@ pub(crate) fn words(alloc: Global) -> Result<Vec<String>, Fail> {
 }
 
 /// A shelf with the two files that the words name.
-pub(crate) fn shelf(alloc: Global, image: &[u8], trace: &str, failing: Vec<u64>) -> Result<MemShelf, Fail> {
+pub(crate) fn shelf(
+    alloc: Global,
+    image: &[u8],
+    trace: &str,
+    failing: Vec<u64>,
+) -> Result<MemShelf, Fail> {
     let mut files = Vec::new(alloc);
     files.push((String::from_str(alloc, "a.bk")?, image.to_vec(alloc)?))?;
     files.push((
@@ -68,7 +73,12 @@ pub(crate) fn sink(alloc: Global) -> MemSink {
 }
 
 /// The outcome of a command line, with the oldest way as the victim.
-pub(crate) fn asked(alloc: Global, words: &[String], shelf: &mut MemShelf, sink: &mut MemSink) -> Outcome {
+pub(crate) fn asked(
+    alloc: Global,
+    words: &[String],
+    shelf: &mut MemShelf,
+    sink: &mut MemSink,
+) -> Outcome {
     let victim = Victim::store(|views: &[WayView]| oldest(views));
     run_plain(alloc, words, shelf, sink, victim)
 }
