@@ -3,7 +3,14 @@
 use super::tests::{asked, shelf as shelf_of, sink, words, words_of};
 use super::*;
 use crate::programs::{EI, MESI, MOESIF, MSI};
+use bk_base::Op;
+use bk_engine::Choice;
+use bk_image::read_image;
+use bk_log::log;
 use bk_outer::MemSink;
+use bk_run::report;
+use bk_system::Event;
+use bk_trace::read_trace;
 use std::alloc::Global;
 use std::test::Fail;
 
@@ -239,5 +246,110 @@ fn a_large_run_is_the_same_again(rt: HostRuntime) -> Result<(), Fail> {
     let first = report_of_drawn(alloc)?;
     assert!(rt; first.ends_with("end rested\n".as_bytes()));
     assert!(rt; first == report_of_drawn(alloc)?);
+    Ok(())
+}
+
+/// A sweep of events, in which each but Issue of two caches has a chance. Those that aren't enabled change nothing.
+fn push_sweep(events: &mut Vec<Event>) -> Result<(), Fail> {
+    for _ in 0..24 {
+        events.push(engine(0, 0))?;
+    }
+    for (class, source) in [(1, 0), (1, 1), (2, 0), (3, 0), (3, 1)] {
+        events.push(engine(class, source))?;
+    }
+    events.push(Event::Command { cache: 0 })?;
+    events.push(Event::Command { cache: 1 })?;
+    events.push(Event::Fill { to: 0, from: 1 })?;
+    events.push(Event::Fill { to: 1, from: 0 })?;
+    events.push(Event::Memory)?;
+    Ok(())
+}
+
+fn engine(class: u8, source: u8) -> Event {
+    Event::Engine {
+        choice: Choice { class, source },
+    }
+}
+
+/// Gives a cache an operation, with way 0.
+fn push_issue(events: &mut Vec<Event>, cache: u8, op: &Op) -> Result<(), Fail> {
+    events.push(Event::Issue {
+        cache,
+        op: *op,
+        way: 0,
+    })?;
+    Ok(())
+}
+
+/// The log and the report of a list of events under `mesi`: both caches load block 0, and then each is given the operation
+/// of the trace that follows, both before the engine has taken a request.
+fn after_two_loads(alloc: Global, text: &str) -> Result<(Vec<u8>, Vec<u8>), Fail> {
+    let image = read_image(alloc, &MESI)?;
+    let trace = read_trace(alloc, text.as_bytes())?;
+    let mut events = Vec::new(alloc);
+    for round in 0..2 {
+        for cache in 0..2 {
+            if let Some(op) = trace.operations(cache).get(round) {
+                push_issue(&mut events, cache, op)?;
+            }
+            if round == 0 {
+                for _ in 0..20 {
+                    push_sweep(&mut events)?;
+                }
+            }
+        }
+    }
+    for _ in 0..40 {
+        push_sweep(&mut events)?;
+    }
+    let log = log(alloc, &image, &trace, &events)?;
+    let report = report(alloc, &image, &trace, &events)?;
+    Ok((log, report))
+}
+
+/// Whether a line of a log begins so.
+fn has_line(log: &[u8], beginning: &str) -> bool {
+    log.split(|byte| *byte == b'\n')
+        .any(|line| line.starts_with(beginning.as_bytes()))
+}
+
+// Two stores of sharers: the second cache is invalidated while its request waits, and is then filled, not woken.
+#[test]
+fn two_sharers_store(rt: HostRuntime) -> Result<(), Fail> {
+    let text = "config 2 1 1\n0 L 0x0\n1 L 0x0\n0 S 0x0 5\n1 S 0x0 6\n";
+    let (log, report) = after_two_loads(rt.alloc(), text)?;
+    let answers =
+        "0 L 0x0 = 0\n1 L 0x0 = 0\n0 S 0x0 5\n1 S 0x0 6\nevents issue 4 command 6 fill 1 memory 2 engine ";
+    assert!(rt;
+        report.starts_with(answers.as_bytes()),
+        "{}",
+        std::str::from_utf8(&report)?
+    );
+    let end = "\ncache 1 set 0 way 0 tag 0x0 M\nend rested\n";
+    assert!(rt; report.ends_with(end.as_bytes()));
+    // Lines of Inv, StWake, Done and StWb, from the engine (f0) to a cache.
+    assert!(rt; has_line(&log, "m 11f001"));
+    assert!(rt; has_line(&log, "m 15f000"));
+    assert!(rt; !has_line(&log, "m 15f001"));
+    Ok(())
+}
+
+// A sharer stores and the other gives the block up: it is invalidated and its eviction ends, without a flush.
+#[test]
+fn a_sharer_stores_and_the_other_evicts(rt: HostRuntime) -> Result<(), Fail> {
+    let text = "config 2 1 1\n0 L 0x0\n1 L 0x0\n0 S 0x0 5\n1 EV 0x0\n";
+    let (log, report) = after_two_loads(rt.alloc(), text)?;
+    let answers = "0 L 0x0 = 0\n1 L 0x0 = 0\n0 S 0x0 5\n1 EV 0x0\n";
+    assert!(rt;
+        report.starts_with(answers.as_bytes()),
+        "{}",
+        std::str::from_utf8(&report)?
+    );
+    let end = "\ncache 0 set 0 way 0 tag 0x0 M\nend rested\n";
+    assert!(rt; report.ends_with(end.as_bytes()));
+    // Lines of Inv, StWake, Done and StWb, from the engine (f0) to a cache.
+    assert!(rt; has_line(&log, "m 11f001"));
+    assert!(rt; has_line(&log, "m 18f001"));
+    assert!(rt; !has_line(&log, "m 12f001"));
     Ok(())
 }
