@@ -7,7 +7,6 @@ use Rattle.bk_base.specs.Places.{Shape}
 use Rattle.bk_base.specs.Tables.{put}
 use Rattle.bk_base.specs.declared.op.Op.{Op}
 use Rattle.bk_base.specs.declared.op.Op.TheVariants.{Load, Store}
-use Rattle.bk_isa.specs.declared.form.Form.{Form}
 use Rattle.bk_check.proofs.Programs.{mesi, moesif}
 use Rattle.bk_system.specs.declared.event.Event.{Event}
 use Rattle.bk_system.specs.State.{opening}
