@@ -249,35 +249,33 @@ fn a_large_run_is_the_same_again(rt: HostRuntime) -> Result<(), Fail> {
     Ok(())
 }
 
-/// A sweep of events, in which each but Issue of two caches has a chance. Those that aren't enabled change nothing.
-fn push_sweep(events: &mut Vec<Event>) -> Result<(), Fail> {
-    for _ in 0..24 {
-        events.push(engine(0, 0))?;
-    }
-    for (class, source) in [(1, 0), (1, 1), (2, 0), (3, 0), (3, 1)] {
-        events.push(engine(class, source))?;
-    }
-    events.push(Event::Command { cache: 0 })?;
-    events.push(Event::Command { cache: 1 })?;
-    events.push(Event::Fill { to: 0, from: 1 })?;
-    events.push(Event::Fill { to: 1, from: 0 })?;
-    events.push(Event::Memory)?;
-    Ok(())
-}
-
 fn engine(class: u8, source: u8) -> Event {
     Event::Engine {
         choice: Choice { class, source },
     }
 }
 
-/// Gives a cache an operation, with way 0.
-fn push_issue(events: &mut Vec<Event>, cache: u8, op: &Op) -> Result<(), Fail> {
+/// Gives a cache an operation, with way 0, and then makes so many sweeps of all other events of two caches. Those that aren't
+/// enabled change nothing.
+fn push_issue(events: &mut Vec<Event>, cache: u8, op: &Op, sweeps: u32) -> Result<(), Fail> {
     events.push(Event::Issue {
         cache,
         op: *op,
         way: 0,
     })?;
+    for _ in 0..sweeps {
+        for _ in 0..24 {
+            events.push(engine(0, 0))?;
+        }
+        for (class, source) in [(1, 0), (1, 1), (2, 0), (3, 0), (3, 1)] {
+            events.push(engine(class, source))?;
+        }
+        events.push(Event::Command { cache: 0 })?;
+        events.push(Event::Command { cache: 1 })?;
+        events.push(Event::Fill { to: 0, from: 1 })?;
+        events.push(Event::Fill { to: 1, from: 0 })?;
+        events.push(Event::Memory)?;
+    }
     Ok(())
 }
 
@@ -287,20 +285,10 @@ fn after_two_loads(alloc: Global, text: &str) -> Result<(Vec<u8>, Vec<u8>), Fail
     let image = read_image(alloc, &MESI)?;
     let trace = read_trace(alloc, text.as_bytes())?;
     let mut events = Vec::new(alloc);
-    for round in 0..2 {
-        for cache in 0..2 {
-            if let Some(op) = trace.operations(cache).get(round) {
-                push_issue(&mut events, cache, op)?;
-            }
-            if round == 0 {
-                for _ in 0..20 {
-                    push_sweep(&mut events)?;
-                }
-            }
+    for (cache, number, sweeps) in [(0, 0, 20), (1, 0, 20), (0, 1, 0), (1, 1, 40)] {
+        if let Some(op) = trace.operations(cache).get(number) {
+            push_issue(&mut events, cache, op, sweeps)?;
         }
-    }
-    for _ in 0..40 {
-        push_sweep(&mut events)?;
     }
     let log = log(alloc, &image, &trace, &events)?;
     let report = report(alloc, &image, &trace, &events)?;
