@@ -286,6 +286,9 @@ fn after_two_loads(alloc: Global, text: &str) -> Result<(Vec<u8>, Vec<u8>), Fail
     let trace = read_trace(alloc, text.as_bytes())?;
     let mut events = Vec::new(alloc);
     for (cache, number, sweeps) in [(0, 0, 20), (1, 0, 20), (0, 1, 0), (1, 1, 40)] {
+        if cache >= trace.config().caches {
+            break;
+        }
         if let Some(op) = trace.operations(cache).get(number) {
             push_issue(&mut events, cache, op, sweeps)?;
         }
