@@ -162,12 +162,14 @@ fn too_many_operations(rt: HostRuntime) -> Result<(), Fail> {
 #[test]
 fn no_operation(rt: HostRuntime) -> Result<(), Fail> {
     let alloc = rt.alloc();
-    let mut shelf = shelf(alloc, &UNCACHED, "config 2 4 2", Vec::new(alloc))?;
-    let mut sink = sink(alloc);
-    let outcome = asked(alloc, &words(alloc)?, &mut shelf, &mut sink);
-    assert_eq!(rt; outcome.status, OK);
-    assert_eq!(rt; outcome.events.len(), 0);
-    assert!(rt; sink.bytes() == EMPTY_REPORT.as_bytes());
+    for image in [UNCACHED.as_slice(), MESI.as_slice()] {
+        let mut shelf = shelf(alloc, image, "config 2 4 2", Vec::new(alloc))?;
+        let mut sink = sink(alloc);
+        let outcome = asked(alloc, &words(alloc)?, &mut shelf, &mut sink);
+        assert_eq!(rt; outcome.status, OK);
+        assert_eq!(rt; outcome.events.len(), 0);
+        assert!(rt; sink.bytes() == EMPTY_REPORT.as_bytes());
+    }
     Ok(())
 }
 
