@@ -5,6 +5,7 @@ ghost use Rattle.std.specs.Fn.{FnReturnsAt};
 ghost use Rattle.bk_lce.specs.Asked.{IsPolicy};
 ghost use Rattle.bk_outer.specs.Counts.{Rose};
 ghost use Rattle.bk_cmd.specs.Outcomes.{LeavesRest, is_after_run, is_after_write};
+ghost use Rattle.bk_run.specs.Report.{IsReport};
 ghost use Rattle.bk_cmd.specs.Replays.{RunEnds, EndsShort, AreEvents, IsRunFault, IsDue, log_due, Reported, ReportedPart};
 
 use crate::inputs::Inputs;
@@ -14,17 +15,9 @@ use crate::writing::deliver;
 use bk_lce::{Victim, WayView};
 use bk_log::log;
 use bk_outer::Sink;
-use bk_run::{RunEnd, SerialFault, budget, report, serial};
+use bk_run::{ReportedRun, SerialFault, budget, serial_report};
 use bk_system::Event;
 use std::alloc::{AllocError, Global};
-
-/// The texts of a complete run.
-#[derive(Drop)]
-struct Texts {
-    /// The log, or nothing where it isn't asked for.
-    log: Vec<u8>,
-    report: Vec<u8>,
-}
 
 /// The log of the run of these events, or nothing where it isn't asked for.
 fn log_due(alloc: Global, inputs: &Inputs, events: &[Event]) -> Result<Vec<u8>, AllocError>
@@ -36,24 +29,16 @@ fn log_due(alloc: Global, inputs: &Inputs, events: &[Event]) -> Result<Vec<u8>, 
     }
 }
 
-/// What is due of the run of these events.
-fn texts_of(alloc: Global, inputs: &Inputs, events: &[Event]) -> Result<Texts, AllocError>
-    ensures { IfOk result (λ t. IsDue inputs.now.output inputs.now.image inputs.now.trace events.now (t.log.items ++ t.report.items)) }
-{
-    let log = log_due(alloc, inputs, events)?;
-    let report = report(alloc, &inputs.image, &inputs.trace, events)?;
-    Ok(Texts { log, report })
-}
-
 /// Writes what is due of a complete run.
 fn write_texts<K: Sink, F: Fn(&[WayView]) -> u8 + Copy + Send>(
     alloc: Global,
     inputs: &Inputs,
     victim: &Victim<F>,
-    events: Vec<Event>,
+    run: ReportedRun,
     sink: &mut K,
 ) -> Outcome
-    requires { RunEnds (FnReturnsAt F.Fn victim.now.pick) inputs.now.image inputs.now.trace events.items true }
+    requires ended { RunEnds (FnReturnsAt F.Fn victim.now.pick) inputs.now.image inputs.now.trace run.end.events.items true }
+    requires report { IsReport inputs.now.trace.config inputs.now.image.instrs inputs.now.trace.lines run.end.events.items run.report.items }
     ensures ok { result.status ≡ OK →
         Reported (FnReturnsAt F.Fn victim.now.pick) inputs.now.output inputs.now.image inputs.now.trace result (K.taken sink.old) (K.taken sink.new) }
     ensures write_fault { result.status ≡ WRITE_FAULT →
@@ -64,31 +49,34 @@ fn write_texts<K: Sink, F: Fn(&[WayView]) -> u8 + Copy + Send>(
     ensures memory_none { result.status ≡ MEMORY → result.written ≡ 0 →
         K.taken sink.new ≡ K.taken sink.old }
     ensures status { IsTrue (is_after_write result.status) }
-    ensures events { result.events.items ≡ events.items }
+    ensures events { result.events.items ≡ run.end.events.items }
     ensures rest { LeavesRest result }
     ensures faults_kept { K.faults sink.old ≤ K.faults sink.new }
 {
-    match texts_of(alloc, inputs, &events) {
-        Ok(texts) => deliver(sink, &texts.log, &texts.report, events),
-        Err(_) => ended(MEMORY, events, 0),
+    let ReportedRun { end, report } = run;
+    match log_due(alloc, inputs, &end.events) {
+        Ok(log) => deliver(sink, &log, &report, end.events),
+        Err(_) => ended(MEMORY, end.events, 0),
     }
 }
 
-/// Runs the greedy schedule within the budget of the image and the trace.
+/// Runs the greedy schedule within the budget of the image and the trace, with its report.
 fn run<F: Fn(&[WayView]) -> u8 + Copy + Send>(
     alloc: Global,
     inputs: &Inputs,
     victim: &Victim<F>,
-) -> Result<RunEnd, SerialFault>
+) -> Result<ReportedRun, SerialFault>
     requires { IsPolicy F.Fn victim.now.pick }
-    ensures ok { IfOk result (λ end.
-        RunEnds (FnReturnsAt F.Fn victim.now.pick) inputs.now.image inputs.now.trace end.events.items end.complete) }
+    ensures ok { IfOk result (λ run.
+        RunEnds (FnReturnsAt F.Fn victim.now.pick) inputs.now.image inputs.now.trace run.end.events.items run.end.complete) }
+    ensures report { IfOk result (λ run.
+        IsReport inputs.now.trace.config inputs.now.image.instrs inputs.now.trace.lines run.end.events.items run.report.items) }
     ensures err { IfErr result (IsRunFault (FnReturnsAt F.Fn victim.now.pick) inputs.now.image inputs.now.trace) }
 {
     let instructions = inputs.image.instrs().len() as u64;
     let operations = inputs.trace.lines().len() as u64;
     let events_limit = budget(inputs.trace.config(), instructions, operations);
-    serial(alloc, &inputs.image, &inputs.trace, victim, events_limit)
+    serial_report(alloc, &inputs.image, &inputs.trace, victim, events_limit)
 }
 
 /// Runs the greedy schedule, and writes what is due of a complete run.
@@ -118,11 +106,11 @@ pub(crate) fn replay<K: Sink, F: Fn(&[WayView]) -> u8 + Copy + Send>(
     ensures faults_kept { K.faults sink.old ≤ K.faults sink.new }
 {
     match run(alloc, inputs, victim) {
-        Ok(end) => {
-            if end.complete {
-                write_texts(alloc, inputs, victim, end.events, sink)
+        Ok(reported) => {
+            if reported.end.complete {
+                write_texts(alloc, inputs, victim, reported, sink)
             } else {
-                ended(SPENT, end.events, 0)
+                ended(SPENT, reported.end.events, 0)
             }
         }
         Err(SerialFault::Spent(end)) => ended(SPENT, end.events, 0),

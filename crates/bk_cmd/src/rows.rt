@@ -6,9 +6,10 @@ use crate::programs::{EI, MESI, MOESIF, MSI};
 use bk_base::Op;
 use bk_engine::Choice;
 use bk_image::read_image;
+use bk_lce::{Victim, WayView, oldest};
 use bk_log::log;
 use bk_outer::MemSink;
-use bk_run::report;
+use bk_run::{budget, report, serial};
 use bk_system::Event;
 use bk_trace::read_trace;
 use std::alloc::Global;
@@ -240,12 +241,24 @@ fn report_of_drawn(alloc: Global) -> Result<Vec<u8>, Fail> {
     Ok(sink.bytes().to_vec(alloc)?)
 }
 
+/// The report of the events that `serial` makes there.
+fn report_of_events(alloc: Global) -> Result<Vec<u8>, Fail> {
+    let image = read_image(alloc, &MOESIF)?;
+    let trace = read_trace(alloc, &drawn(alloc)?)?;
+    let victim = Victim::store(|views: &[WayView]| oldest(views));
+    let limit = budget(trace.config(), image.instrs().len() as u64, 5000);
+    match serial(alloc, &image, &trace, &victim, limit) {
+        Ok(end) => Ok(report(alloc, &image, &trace, &end.events)?),
+        Err(_) => Err(Fail::from("the run has no end")),
+    }
+}
+
 #[test]
-fn a_large_run_is_the_same_again(rt: HostRuntime) -> Result<(), Fail> {
+fn the_report_of_a_large_run_is_that_of_its_events(rt: HostRuntime) -> Result<(), Fail> {
     let alloc = rt.alloc();
     let first = report_of_drawn(alloc)?;
     assert!(rt; first.ends_with("end rested\n".as_bytes()));
-    assert!(rt; first == report_of_drawn(alloc)?);
+    assert!(rt; first == report_of_events(alloc)?);
     Ok(())
 }
 

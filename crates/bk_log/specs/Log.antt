@@ -26,10 +26,14 @@ event_text (Engine choice) = codes "E " ++ decimal choice.class ++ codes " " ++ 
 abbrev pub message_text : Row → List ℕ
 message_text message = codes "m " ++ encode_lower (spelling message) ++ codes "\n"
 
+-- an event that was enabled, and the messages that it sent
+abbrev pub ran_text : Event → List Row → List ℕ
+ran_text event sent = event_text event ++ flat_map message_text sent
+
 -- an event that isn't enabled isn't logged
 abbrev pub row_text : Event → Option Happening → List ℕ
 row_text event None = []
-row_text event (Some happening) = event_text event ++ flat_map message_text happening.sent
+row_text event (Some happening) = ran_text event happening.sent
 
 -- the log of events that begin in a state
 abbrev pub log_from : Shape → List Form → State → List Event → List ℕ

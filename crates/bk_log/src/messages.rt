@@ -2,13 +2,11 @@
 
 ghost use Rattle.std.specs.Prelude.{◌≡◌, ◌++◌, OnOk, string_bytes};
 ghost use Rattle.std.specs.List.{flat_map};
-ghost use Rattle.bk_system.specs.State.{State};
-ghost use Rattle.bk_system.specs.Systems.{row_from};
-ghost use Rattle.bk_log.specs.Log.{message_text, row_text};
+ghost use Rattle.bk_log.specs.Log.{message_text, ran_text};
 
 use crate::events::push_event;
 use bk_msg::{Message, spell};
-use bk_system::{Event, Stepped};
+use bk_system::Event;
 use std::alloc::{AllocError, Global};
 
 // Each function fails only where memory runs out; `out` may then hold a part of its text.
@@ -34,19 +32,14 @@ fn push_messages(alloc: Global, out: &mut String, messages: &[Message]) -> Resul
 }
 
 /// Writes the line of an event that was enabled, and those of the messages that it sent.
-pub(crate) fn push_stepped(
+pub(crate) fn push_ran(
     alloc: Global,
     out: &mut String,
     event: &Event,
-    stepped: &Stepped,
+    sent: &[Message],
 ) -> Result<(), AllocError>
-    ensures { (s : State) → OnOk result (string_bytes out.new ≡ string_bytes out.old ++ row_text event.now (row_from stepped.now s)) }
+    ensures { OnOk result (string_bytes out.new ≡ string_bytes out.old ++ ran_text event.now sent.now) }
 {
-    match stepped {
-        Stepped::Disabled => Ok(()),
-        Stepped::Ran(sent) => {
-            push_event(out, event)?;
-            push_messages(alloc, out, sent.as_slice())
-        }
-    }
+    push_event(out, event)?;
+    push_messages(alloc, out, sent)
 }

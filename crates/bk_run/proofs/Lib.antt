@@ -2,6 +2,7 @@ pub mod Begun
 pub mod Counted
 pub mod Ends
 pub mod InOrder
+pub mod Issues
 pub mod Lines
 pub mod Prefixes
 pub mod RowOne

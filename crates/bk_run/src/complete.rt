@@ -1,4 +1,4 @@
-ghost use Rattle.std.specs.Prelude.{◌≡◌, IfOk, IsTrue, ◌↔◌};
+ghost use Rattle.std.specs.Prelude.{◌≡◌, ℕ, IfOk, IsTrue, ◌↔◌};
 ghost use Rattle.bk_system.specs.Runs.{issued_by, completed_by, IsPrefix, IsInOrder};
 ghost use Rattle.bk_run.specs.Whole.{IsWhole, IsDone};
 
@@ -8,6 +8,19 @@ use bk_trace::Trace;
 use std::alloc::{AllocError, Global};
 
 // Each function that answers a `Result` fails only where memory runs out.
+
+/// The Issues of a list of events, in order. There are far fewer of them.
+fn issues_of(alloc: Global, events: &[Event]) -> Result<Vec<Event>, AllocError>
+    ensures { IfOk result (λ v. (c : ℕ) → issued_by c v.items ≡ issued_by c events.now) }
+{
+    let mut issues = Vec::new(alloc);
+    for event in events {
+        if let Event::Issue { .. } = event {
+            issues.push(*event)?;
+        }
+    }
+    Ok(issues)
+}
 
 /// The operations that a list of events has a cache issue, in order.
 fn issued_by(alloc: Global, cache: u8, events: &[Event]) -> Result<Vec<Op>, AllocError>
@@ -56,8 +69,9 @@ fn is_in_order(alloc: Global, trace: &Trace, events: &[Event]) -> Result<bool, A
     ensures { IfOk result (λ b. IsTrue b ↔ IsInOrder trace.now.config trace.now.lines events.now) }
 {
     let config = trace.config();
+    let issues = issues_of(alloc, events)?;
     for cache in 0..config.caches {
-        let issued = issued_by(alloc, cache, events)?;
+        let issued = issued_by(alloc, cache, &issues)?;
         if !is_prefix(&issued, trace.operations(cache)) {
             return Ok(false);
         }

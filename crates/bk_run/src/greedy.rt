@@ -43,6 +43,10 @@ fn ready(hardware: &Hardware, program: &[Instr], trace: &Trace, cache: u8) -> Op
     ensures own { IfSome result (λ at. at.0 ≡ cache) }
     ensures value { result ≡ ready hardware.now.config program.now (state_of hardware.now) trace.now.lines cache }
 {
+    // Most caches are busy, so that is asked first.
+    if hardware.cache(cache).busy() {
+        return None;
+    }
     match next_operation(hardware, trace, cache) {
         None => None,
         Some(op) => {

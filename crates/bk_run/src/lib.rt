@@ -11,5 +11,5 @@ mod text;
 
 pub use counts::Counts;
 pub use reports::report;
-pub use runs::{RunEnd, SerialFault, budget, serial};
+pub use runs::{ReportedRun, RunEnd, SerialFault, budget, serial, serial_report};
 pub use system::System;

@@ -1,17 +1,19 @@
-ghost use Rattle.std.specs.Prelude.{◌≡◌, ◌+◌, ◌-◌, ◌*◌, ◌≤◌, ◌^◌, ℕ, length, IfOk};
+ghost use Rattle.std.specs.Prelude.{◌≡◌, ◌+◌, ◌*◌, ◌≤◌, ◌^◌, ℕ, length, IfOk, OnOk};
 ghost use Rattle.bk_run.specs.Counted.{IsAtMost};
-ghost use Rattle.bk_system.specs.Runs.{run};
-ghost use Rattle.bk_run.specs.Report.{IsReport, count_sent, count_row, counts_of};
-ghost use Rattle.bk_system.specs.State.{State};
-ghost use Rattle.bk_system.specs.Systems.{state_of, row_from};
+ghost use Rattle.bk_system.specs.Events.{row};
+ghost use Rattle.bk_system.specs.Runs.{after, run};
+ghost use Rattle.bk_run.specs.Report.{IsReport, no_counts, count_sent, count_row, counts_of};
+ghost use Rattle.bk_system.specs.State.{opening};
+ghost use Rattle.bk_system.specs.Systems.{state_of};
 
 use crate::complete::is_done;
 use crate::counts::Counts;
 use crate::text::report_bytes;
+use bk_base::Config;
 use bk_image::Image;
 use bk_isa::Instr;
 use bk_msg::Message;
-use bk_system::{Event, Hardware, Stepped};
+use bk_system::{Event, Hardware};
 use bk_trace::Trace;
 use std::alloc::{AllocError, Global};
 
@@ -27,26 +29,46 @@ fn count_messages(counts: &mut Counts, messages: &[Message])
     }
 }
 
-/// Counts an event that was enabled, and what it sent.
-fn count_stepped(counts: &mut Counts, event: &Event, stepped: &Stepped)
-    requires { IsAtMost (2 ^ 59) (2 ^ 63) counts.old }
-    ensures value { (s : State) → counts.new ≡ count_row counts.old event.now (row_from stepped.now s) }
-    ensures grows { (n : ℕ) → IsAtMost n (16 * n) counts.old → IsAtMost (n + 1) (16 * (n + 1)) counts.new }
-{
-    match stepped {
-        Stepped::Disabled => {}
-        Stepped::Ran(sent) => {
-            counts.add_event(event);
-            count_messages(counts, sent.as_slice());
-        }
-    }
+/// A run of some events: the hardware after them, and what was counted.
+#[derive(Drop)]
+pub(crate) struct Counted {
+    pub(crate) hardware: Hardware,
+    pub(crate) counts: Counts,
 }
 
-/// A run of a list of events: the hardware after them, and what was counted.
-#[derive(Drop)]
-struct Counted {
-    hardware: Hardware,
-    counts: Counts,
+impl Counted {
+    /// No event yet.
+    pub(crate) fn new(alloc: Global, config: Config) -> Result<Counted, AllocError>
+        ensures state { IfOk result (λ counted. state_of counted.hardware ≡ opening config) }
+        ensures config { IfOk result (λ counted. counted.hardware.config ≡ config) }
+        ensures counts { IfOk result (λ counted. counted.counts ≡ no_counts) }
+    {
+        let hardware = Hardware::make(alloc, config)?;
+        Ok(Counted {
+            hardware,
+            counts: Counts::new(),
+        })
+    }
+
+    /// Makes an event, and counts it and what it sent, if it was enabled.
+    pub(crate) fn step(&mut self, program: &[Instr], event: &Event) -> Result<(), AllocError>
+        requires few { length program.now ≤ 256 }
+        requires room { IsAtMost (2 ^ 59) (2 ^ 63) self.old.counts }
+        ensures state { OnOk result (state_of self.new.hardware ≡ after self.old.hardware.config program.now (state_of self.old.hardware) event.now) }
+        ensures counts { OnOk result (self.new.counts ≡ count_row self.old.counts event.now (row self.old.hardware.config program.now (state_of self.old.hardware) event.now)) }
+        ensures config { self.new.hardware.config ≡ self.old.hardware.config }
+        ensures grows { (n : ℕ) → IsAtMost n (16 * n) self.old.counts → IsAtMost (n + 1) (16 * (n + 1)) self.new.counts }
+    {
+        match self.hardware.step(program, event) {
+            Ok(true) => {
+                self.counts.add_event(event);
+                count_messages(&mut self.counts, self.hardware.sent());
+                Ok(())
+            }
+            Ok(false) => Ok(()),
+            Err(e) => Err(e),
+        }
+    }
 }
 
 /// Makes the events one by one, and counts.
@@ -61,16 +83,11 @@ fn count_events(
     ensures config { IfOk result (λ counted. counted.hardware.config ≡ trace.now.config) }
     ensures counts { IfOk result (λ counted. counted.counts ≡ counts_of trace.now.config program.now events.now) }
 {
-    let mut hardware = Hardware::make(alloc, trace.config())?;
-    let mut counts = Counts::new();
+    let mut counted = Counted::new(alloc, trace.config())?;
     for event in events {
-        let stepped = match hardware.happen(program, event) {
-            Ok(stepped) => stepped,
-            Err(e) => return Err(e),
-        };
-        count_stepped(&mut counts, event, &stepped);
+        counted.step(program, event)?;
     }
-    Ok(Counted { hardware, counts })
+    Ok(counted)
 }
 
 /// The report of a list of events: a line for each operation that completed, the counts of events and of

@@ -5,15 +5,18 @@ ghost use Rattle.bk_system.specs.Runs.{run};
 ghost use Rattle.bk_run.specs.Greedy.{budget_of, IsGreedy, IsEnd};
 ghost use Rattle.bk_run.specs.Serial.{IsEnded};
 ghost use Rattle.bk_run.specs.Faults.{IsFault};
+ghost use Rattle.bk_run.specs.Report.{IsReport, counts_of};
 ghost use Rattle.bk_system.specs.Systems.{state_of};
 
 use crate::complete::is_done;
 use crate::greedy::least_of;
+use crate::reports::Counted;
+use crate::text::report_bytes;
 use bk_base::Config;
 use bk_image::Image;
 use bk_isa::Instr;
 use bk_lce::{Victim, WayView};
-use bk_system::{Event, Hardware};
+use bk_system::Event;
 use bk_trace::Trace;
 use std::alloc::{AllocError, Global};
 
@@ -23,6 +26,14 @@ use std::alloc::{AllocError, Global};
 pub struct RunEnd {
     pub events: Vec<Event>,
     pub complete: bool,
+}
+
+/// A run that has ended, and its report.
+#[derive(Debug, Drop)]
+pub struct ReportedRun {
+    pub end: RunEnd,
+    /// The bytes that `report` answers of the run's events.
+    pub report: Vec<u8>,
 }
 
 /// Why a run has no end to show.
@@ -42,11 +53,21 @@ pub fn budget(config: Config, instructions: u64, operations: u64) -> u64
     operations * (4 * config.caches as u64 + 32) * (instructions + 4) + instructions
 }
 
-/// A run of the greedy schedule so far: the system's hardware after the events.
+/// How many events a run counts at the most: each may send sixteen messages.
+const MOST_EVENTS: usize = 1 << 59;
+
+/// A run of the greedy schedule so far: its events, the system's hardware after them, and what was counted.
 #[derive(Drop)]
 struct Made {
-    hardware: Hardware,
+    counted: Counted,
     events: Vec<Event>,
+}
+
+/// A run that has ended, with what its report is made of.
+#[derive(Drop)]
+struct Ended {
+    end: RunEnd,
+    counted: Counted,
 }
 
 /// Makes the greedy events, to their end or as many as the budget.
@@ -61,18 +82,23 @@ fn make_events<F: Fn(&[WayView]) -> u8 + Copy + Send>(
     requires policy { IsPolicy F.Fn victim.now.pick }
     ensures greedy { IfOk result (λ made. IsGreedy (FnReturnsAt F.Fn victim.now.pick) trace.now.config program.now trace.now.lines made.events.items) }
     ensures within { IfOk result (λ made. length made.events.items ≤ budget) }
-    ensures whole { IfOk result (λ made. length made.events.items < budget → IsEnd trace.now.config program.now (state_of made.hardware) trace.now.lines) }
-    ensures state { IfOk result (λ made. state_of made.hardware ≡ run trace.now.config program.now made.events.items) }
-    ensures config { IfOk result (λ made. made.hardware.config ≡ trace.now.config) }
+    ensures whole { IfOk result (λ made. length made.events.items < budget → IsEnd trace.now.config program.now (state_of made.counted.hardware) trace.now.lines) }
+    ensures state { IfOk result (λ made. state_of made.counted.hardware ≡ run trace.now.config program.now made.events.items) }
+    ensures config { IfOk result (λ made. made.counted.hardware.config ≡ trace.now.config) }
+    ensures counts { IfOk result (λ made. made.counted.counts ≡ counts_of trace.now.config program.now made.events.items) }
 {
-    let mut hardware = Hardware::make(alloc, trace.config())?;
+    let mut counted = Counted::new(alloc, trace.config())?;
     let mut events = Vec::new(alloc);
     for _ in 0..budget {
-        let Some(event) = least_of(&hardware, victim, program, trace) else {
-            return Ok(Made { hardware, events });
+        // More events than can be counted don't stand in any memory.
+        if events.len() > MOST_EVENTS {
+            return Err(AllocError);
+        }
+        let Some(event) = least_of(&counted.hardware, victim, program, trace) else {
+            return Ok(Made { counted, events });
         };
-        match hardware.step(program, &event) {
-            Ok(_) => {}
+        match counted.step(program, &event) {
+            Ok(()) => {}
             Err(e) => return Err(e),
         }
         match events.push(event) {
@@ -80,7 +106,42 @@ fn make_events<F: Fn(&[WayView]) -> u8 + Copy + Send>(
             Err(_) => return Err(AllocError),
         }
     }
-    Ok(Made { hardware, events })
+    Ok(Made { counted, events })
+}
+
+/// Makes the greedy events to their end, and tells whether they do all of the trace.
+fn run_to_end<F: Fn(&[WayView]) -> u8 + Copy + Send>(
+    alloc: Global,
+    program: &[Instr],
+    trace: &Trace,
+    victim: &Victim<F>,
+    budget: u64,
+) -> Result<Ended, SerialFault>
+    requires few { length program.now ≤ 256 }
+    requires policy { IsPolicy F.Fn victim.now.pick }
+    ensures ok { IfOk result (λ ended. IsEnded (FnReturnsAt F.Fn victim.now.pick) trace.now.config program.now trace.now.lines budget ended.end.events.items ended.end.complete) }
+    ensures state { IfOk result (λ ended. state_of ended.counted.hardware ≡ run trace.now.config program.now ended.end.events.items) }
+    ensures config { IfOk result (λ ended. ended.counted.hardware.config ≡ trace.now.config) }
+    ensures counts { IfOk result (λ ended. ended.counted.counts ≡ counts_of trace.now.config program.now ended.end.events.items) }
+    ensures fault { IfErr result (IsFault (FnReturnsAt F.Fn victim.now.pick) trace.now.config program.now trace.now.lines budget) }
+{
+    let made = match make_events(alloc, program, trace, victim, budget) {
+        Ok(made) => made,
+        Err(_) => return Err(SerialFault::Memory),
+    };
+    let Made { counted, events } = made;
+    let hardware = &counted.hardware;
+    let rested = hardware.rested(program);
+    let complete = match is_done(alloc, trace, &events, hardware.history(), rested) {
+        Ok(complete) => complete,
+        Err(_) => return Err(SerialFault::Memory),
+    };
+    let next = least_of(hardware, victim, program, trace);
+    let end = RunEnd { events, complete };
+    match next {
+        None => Ok(Ended { end, counted }),
+        Some(_) => Err(SerialFault::Spent(end)),
+    }
 }
 
 /// Runs the greedy schedule of an image over a trace, to its end or to the budget. Each Issue has the way that the victim
@@ -96,19 +157,32 @@ pub fn serial<F: Fn(&[WayView]) -> u8 + Copy + Send>(
     ensures ok { IfOk result (λ end. IsEnded (FnReturnsAt F.Fn victim.now.pick) trace.now.config image.now.instrs trace.now.lines budget end.events.items end.complete) }
     ensures fault { IfErr result (IsFault (FnReturnsAt F.Fn victim.now.pick) trace.now.config image.now.instrs trace.now.lines budget) }
 {
-    let program = image.instrs();
-    let made = match make_events(alloc, program, trace, victim, budget) {
-        Ok(made) => made,
-        Err(_) => return Err(SerialFault::Memory),
+    match run_to_end(alloc, image.instrs(), trace, victim, budget) {
+        Ok(ended) => Ok(ended.end),
+        Err(e) => Err(e),
+    }
+}
+
+/// The same as `serial`, with the report of the run's events. Each event is made once.
+pub fn serial_report<F: Fn(&[WayView]) -> u8 + Copy + Send>(
+    alloc: Global,
+    image: &Image,
+    trace: &Trace,
+    victim: &Victim<F>,
+    budget: u64,
+) -> Result<ReportedRun, SerialFault>
+    requires { IsPolicy F.Fn victim.now.pick }
+    ensures ok { IfOk result (λ r. IsEnded (FnReturnsAt F.Fn victim.now.pick) trace.now.config image.now.instrs trace.now.lines budget r.end.events.items r.end.complete) }
+    ensures report { IfOk result (λ r. IsReport trace.now.config image.now.instrs trace.now.lines r.end.events.items r.report.items) }
+    ensures fault { IfErr result (IsFault (FnReturnsAt F.Fn victim.now.pick) trace.now.config image.now.instrs trace.now.lines budget) }
+{
+    let ended = match run_to_end(alloc, image.instrs(), trace, victim, budget) {
+        Ok(ended) => ended,
+        Err(e) => return Err(e),
     };
-    let Made { hardware, events } = made;
-    let rested = hardware.rested(program);
-    let complete = match is_done(alloc, trace, &events, hardware.history(), rested) {
-        Ok(complete) => complete,
-        Err(_) => return Err(SerialFault::Memory),
-    };
-    match least_of(&hardware, victim, program, trace) {
-        None => Ok(RunEnd { events, complete }),
-        Some(_) => Err(SerialFault::Spent(RunEnd { events, complete })),
+    let Ended { end, counted } = ended;
+    match report_bytes(alloc, &counted.hardware, &counted.counts, end.complete) {
+        Ok(report) => Ok(ReportedRun { end, report }),
+        Err(_) => Err(SerialFault::Memory),
     }
 }

@@ -1,13 +1,9 @@
 -- The state that a system's hardware stands for.
-use Rattle.std.specs.Prelude.{Option, Some, None}
 use Rattle.bk_engine.specs.Engines as engines
-use Rattle.bk_system.specs.declared.event.Stepped.{Stepped}
-use Rattle.bk_system.specs.declared.event.Stepped.TheVariants.{Disabled, Ran}
 use Rattle.bk_system.specs.declared.hardware.Hardware.{Hardware}
 use Rattle.bk_system.specs.Banks.{states_of}
 use Rattle.bk_system.specs.Channels.{queue, word_at}
 use Rattle.bk_system.specs.State.{State}
-use Rattle.bk_system.specs.Events.{Happening}
 use Rattle.bk_system.specs.Kept.{fills_of}
 
 abbrev pub state_of : Hardware → State
@@ -25,8 +21,3 @@ state_of y = record {
   taken = y.taken.items;
   settled = y.settled.items;
 }
-
--- the row that an event had, from what it answered and left
-abbrev pub row_from : Stepped → State → Option Happening
-row_from Disabled s = None
-row_from (Ran sent) s = Some (record { state = s; sent = sent.items })

@@ -1,7 +1,5 @@
-use arrayvec::ArrayVec;
 use bk_base::Op;
 use bk_engine::Choice;
-use bk_msg::Message;
 
 /// One local step of one agent.
 #[derive(Clone, Copy, Debug, PartialEq, Eq)]
@@ -23,13 +21,4 @@ pub enum Event {
 pub struct Group {
     pub cache: u8,
     pub group: u8,
-}
-
-/// What an event did.
-#[derive(Debug, Drop)]
-pub enum Stepped {
-    /// It wasn't enabled, and changed nothing.
-    Disabled,
-    /// It was enabled, and sent these messages, in order.
-    Ran(ArrayVec<Message, 16>),
 }

@@ -1,23 +1,22 @@
 ghost use Rattle.std.specs.Prelude.{◌≡◌, ◌≤◌, length, IfOk, OnOk, OnErr, is_some};
 
 use crate::bounds::{has_cache, has_way};
-use crate::event::{Event, Stepped};
+use crate::event::Event;
 use crate::hardware::Hardware;
 use crate::heads::{is_choice, offered};
 use crate::sending::fill_place;
-use arrayvec::ArrayVec;
 use bk_base::Op;
 use bk_engine::Choice;
 use bk_isa::Instr;
+use bk_msg::Message;
 use std::alloc::AllocError;
-use std::mem::replace;
 
 // One event of any kind, and whether it is enabled.
 
 impl Hardware {
-    ghost use Rattle.bk_system.specs.Systems.{state_of, row_from};
+    ghost use Rattle.bk_system.specs.Systems.{state_of};
     ghost use Rattle.bk_system.specs.Events.{issue_taken, command_taken, fill_taken, can_run, row};
-    ghost use Rattle.bk_system.specs.Rooms.{Happens};
+    ghost use Rattle.bk_system.specs.Rooms.{Answers, Happens};
     ghost use Rattle.bk_system.specs.Runs.{after, is_enabled};
 
     /// One event, by its kind: whether it ran. What it sent is then in `sent`.
@@ -35,35 +34,14 @@ impl Hardware {
         }
     }
 
-    /// One event: what it sent, and the state that it leaves. One that isn't enabled changes nothing.
-    ///
-    /// # Errors
-    ///
-    /// `AllocError` if the memory runs out; then nothing has changed.
-    pub fn happen(&mut self, program: &[Instr], event: &Event) -> Result<Stepped, AllocError>
-        requires { length program.now ≤ 256 }
-        ensures ok { IfOk result (λ stepped. row self.old.config program.now (state_of self.old) event.now ≡ row_from stepped (state_of self.new)) }
-        ensures state { OnOk result (state_of self.new ≡ after self.old.config program.now (state_of self.old) event.now) }
-        ensures err { OnErr result (state_of self.new ≡ state_of self.old) }
-        ensures config { self.new.config ≡ self.old.config }
-    {
-        match self.advance(program, event) {
-            Ok(false) => Ok(Stepped::Disabled),
-            Ok(true) => {
-                let sent = replace(&mut self.sent, ArrayVec::new());
-                Ok(Stepped::Ran(sent))
-            }
-            Err(e) => Err(e),
-        }
-    }
-
-    /// One event: whether it was enabled. One that isn't changes nothing.
+    /// One event: whether it was enabled. What it sent is then answered by `sent`. One that isn't enabled changes nothing.
     ///
     /// # Errors
     ///
     /// `AllocError` if the memory runs out; then nothing has changed.
     pub fn step(&mut self, program: &[Instr], event: &Event) -> Result<bool, AllocError>
         requires { length program.now ≤ 256 }
+        ensures row { IfOk result (Answers (row self.old.config program.now (state_of self.old) event.now) (state_of self.old) (state_of self.new) self.new.sent.items) }
         ensures ran { IfOk result (λ ran. ran ≡ is_enabled self.old.config program.now (state_of self.old) event.now) }
         ensures state { OnOk result (state_of self.new ≡ after self.old.config program.now (state_of self.old) event.now) }
         ensures err { OnErr result (state_of self.new ≡ state_of self.old) }
@@ -74,6 +52,14 @@ impl Hardware {
             Ok(true) => Ok(true),
             Err(e) => Err(e),
         }
+    }
+
+    /// The messages that the last event sent, of those that ran, in order.
+    pub fn sent(&self) -> &[Message]
+        ensures value { result.now ≡ self.now.sent.items }
+        ensures few { length result.now ≤ 16 }
+    {
+        self.sent.as_slice()
     }
 
     /// Whether a cache may be given an operation with a way.
@@ -126,10 +112,14 @@ impl Hardware {
         if !has_cache(self.config, choice.source) {
             return false;
         }
+        let head = offered(&self.responses, &self.memin, &self.requests, choice);
+        // A greedy schedule asks this of each channel in turn, and most of them are empty.
+        if choice.class != 0 && head.is_none() {
+            return false;
+        }
         if !is_choice(program, self.engine.place(), choice) {
             return false;
         }
-        let head = offered(&self.responses, &self.memin, &self.requests, choice);
         self.engine.runs(program, choice, head)
     }
 

@@ -15,7 +15,7 @@ mod running;
 mod sending;
 mod steps;
 
-pub use event::{Event, Group, Stepped};
+pub use event::{Event, Group};
 pub use hardware::Hardware;
 pub use heads::{MEMORY_ANSWERS, REQUESTS, RESPONSES};
 pub use memory::MainMemory;

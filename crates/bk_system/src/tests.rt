@@ -1,4 +1,4 @@
-use crate::event::{Event, Stepped};
+use crate::event::Event;
 use crate::hardware::Hardware;
 use crate::memory::MainMemory;
 use bk_base::{Addr, Config, Op};
@@ -71,10 +71,8 @@ fn an_issue_sends_its_request(rt: HostRuntime) -> Result<(), Fail> {
         op: Op::Store(addr, 7),
         way: 1,
     };
-    let Stepped::Ran(sent) = hardware.happen(&[], &issue)? else {
-        return Err(Fail::from("the cache is idle"));
-    };
-    assert_eq!(rt; sent.as_slice(), [Message::wr(1, 1, addr)].as_slice());
+    assert!(rt; hardware.step(&[], &issue)?, "the cache is idle");
+    assert_eq!(rt; hardware.sent(), [Message::wr(1, 1, addr)].as_slice());
     Ok(())
 }
 

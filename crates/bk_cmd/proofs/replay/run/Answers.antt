@@ -7,4 +7,4 @@ use Rattle.bk_cmd.proofs.replay.run.Goals as goal
 pub returns-clause-err : goal.returns-clause-err
 returns-clause-err g c =
     let same : c.budget-events_limit.result ≡ budget_for c.args.inputs.now.image c.args.inputs.now.trace = cc in
-    fault-told (FnReturnsAt g.F.Fn c.args.victim.now.pick) c.args.inputs.now.image c.args.inputs.now.trace c.budget-events_limit.result c.serial.result same (search rules)
+    fault-told (FnReturnsAt g.F.Fn c.args.victim.now.pick) c.args.inputs.now.image c.args.inputs.now.trace c.budget-events_limit.result c.serial_report.result same (search rules)

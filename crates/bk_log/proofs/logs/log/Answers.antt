@@ -9,8 +9,8 @@ loop-event-preserved c =
     let k = c.args.trace.now.config in
     let p = c.instrs-program.result.now in
     record {
-      config = c.in-Ok.ensures.config ∙ c.loop-event.invariant.config;
-      text = log-next k c.loop-event.hardware.config p c.args.events.now c.loop-event.event-index c.event-item.result (state_of c.loop-event.hardware) (state_of c.happen.new.self) c.in-Ok.stepped
-          (string_bytes c.loop-event.out) (string_bytes c.push_stepped.new.out) (log_of k p c.args.events.now)
-          c.loop-event-test.true c.event-item.is c.loop-event.invariant.config c.in-Ok.ensures.state c.in-Ok.ensures.ok (c.in_ok-push_stepped.ensures (state_of c.happen.new.self)) c.loop-event.invariant.text;
+      config = c.in_ok-log_event.ensures.config ∙ c.loop-event.invariant.config;
+      text = log-next k c.loop-event.hardware.config p c.args.events.now c.loop-event.event-index c.event-item.result (state_of c.loop-event.hardware) (state_of c.log_event.new.hardware)
+          (string_bytes c.loop-event.out) (string_bytes c.log_event.new.out) (log_of k p c.args.events.now)
+          c.loop-event-test.true c.event-item.is c.loop-event.invariant.config c.in_ok-log_event.ensures.state c.in_ok-log_event.ensures.text c.loop-event.invariant.text;
     }

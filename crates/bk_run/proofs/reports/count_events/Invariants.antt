@@ -7,8 +7,8 @@ use Rattle.bk_run.proofs.reports.count_events.Given as goal
 
 abbrev pub invariant-loop-event : goal.invariant-loop-event
 invariant-loop-event l = record {
-  config : l.hardware.config ≡ l.trace.config;
-  room : IsAtMost l.event-index (16 * l.event-index) l.counts;
-  state : run_from l.trace.config l.program (state_of l.hardware) (drop l.event-index l.events) ≡ run l.trace.config l.program l.events;
-  counts : counts_from l.trace.config l.program (state_of l.hardware) l.counts (drop l.event-index l.events) ≡ counts_of l.trace.config l.program l.events;
+  config : l.counted.hardware.config ≡ l.trace.config;
+  room : IsAtMost l.event-index (16 * l.event-index) l.counted.counts;
+  state : run_from l.trace.config l.program (state_of l.counted.hardware) (drop l.event-index l.events) ≡ run l.trace.config l.program l.events;
+  counts : counts_from l.trace.config l.program (state_of l.counted.hardware) l.counted.counts (drop l.event-index l.events) ≡ counts_of l.trace.config l.program l.events;
 }

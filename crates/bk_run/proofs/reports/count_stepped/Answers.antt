@@ -1,8 +1,0 @@
-use Rattle.std.proofs.Common.{◌+◌, ◌*◌, length, arith}
-use Rattle.bk_run.proofs.Counted.{at_most_higher}
-use Rattle.bk_run.proofs.reports.count_stepped.Goals as goal
-
-pub returns-in-Ran-clause-grows : goal.returns-in-Ran-clause-grows
-returns-in-Ran-clause-grows c = λ n h.
-    at_most_higher (n + 1) (n + 1) (16 * n + length c.as_slice.result.now) (16 * (n + 1)) c.count_messages.new.counts (omega arith) (omega arith)
-    (c.count_messages.ensures.grows (n + 1) (16 * n) (c.add_event.ensures.grows n (16 * n) h))
