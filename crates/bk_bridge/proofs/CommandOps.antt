@@ -21,7 +21,7 @@ use Rattle.bk_machine.specs.Steps.{step_after, WakeStores, completes}
 use Rattle.bk_machine.specs.CacheTable.{for_busy, block_row, wake_row, word_row, stored_row, evicted_row}
 use Rattle.bk_machine.specs.World.{World}
 use Rattle.bk_bridge.specs.Worlds.{world_of, begun_of, entry_of}
-use Rattle.bk_bridge.specs.Formed.{address_in_op}
+use Rattle.bk_lce.specs.Asked as asked
 use Rattle.bk_bridge.proofs.Places.{blocks, words_apart}
 use Rattle.bk_bridge.proofs.Agrees.{Agrees, left_of}
 use Rattle.bk_bridge.proofs.Gates.{gated, gated-none, shut, and_last}
@@ -116,7 +116,7 @@ module _ (k : Shape) (p : State) (x : Option (ℕ × Transaction)) (c : ℕ) (C 
   done op at g o answer way f t eg = completes_row k p x c op at o answer way f t ∙ ap (λ (s : ℕ). completes s c o answer (world_of k p x)) eg
 
   -- UCBLK
-  word-op : (addr word way : ℕ) (op : Operation) → IsAddr addr → IsAddr (address_in_op op)
+  word-op : (addr word way : ℕ) (op : Operation) → IsAddr addr → IsAddr (asked.address_of op)
       → Agrees (left_of k x p c) (Before k p x C) (table.word_row (p.caches c) c way addr word op)
       (cond (eqb (op_of k op).0 (group_of k addr)) (word_row (group_of k addr) c (tag_at k addr) way (word_of addr) word rest (op_of k op).1) None)
   word-op addr word way (ops.UcLoad at) h i =
@@ -130,14 +130,14 @@ module _ (k : Shape) (p : State) (x : Option (ℕ × Transaction)) (c : ℕ) (C 
   word-op addr word way (ops.UcStore at value) h i = shut (left_of k x p c) (Before k p x C) (eqb (group_of k at) (group_of k addr))
   word-op addr word way (ops.Evict at) h i = shut (left_of k x p c) (Before k p x C) (eqb (group_of k at) (group_of k addr))
 
-  pub word_comes : (addr word : ℕ) (b : Option Begun) → IsAddr addr → IfSome b (λ o. IsAddr (address_in_op o.op))
+  pub word_comes : (addr word : ℕ) (b : Option Begun) → IsAddr addr → IfSome b (λ o. IsAddr (asked.address_of o.op))
       → Agrees (left_of k x p c) (Before k p x C) (table.ends b (λ way op. table.word_row (p.caches c) c way addr word op))
       (for_busy (group_of k addr) (begun_of k b) (λ o. word_row (group_of k addr) c (tag_at k addr) o.way (word_of addr) word rest o.op))
   word_comes addr word None h i = tt
   word_comes addr word (Some b) h i = word-op addr word b.way b.op h i
 
   -- UCDONE
-  stored-op : (addr way : ℕ) (op : Operation) → IsAddr addr → IsAddr (address_in_op op)
+  stored-op : (addr way : ℕ) (op : Operation) → IsAddr addr → IsAddr (asked.address_of op)
       → Agrees (left_of k x p c) (Before k p x C) (table.written_row (p.caches c) c way addr op)
       (cond (eqb (op_of k op).0 (group_of k addr)) (stored_row (group_of k addr) c (tag_at k addr) way (word_of addr) rest (op_of k op).1) None)
   stored-op addr way (ops.UcStore at value) h i =
@@ -152,7 +152,7 @@ module _ (k : Shape) (p : State) (x : Option (ℕ × Transaction)) (c : ℕ) (C 
   stored-op addr way (ops.UcLoad at) h i = shut (left_of k x p c) (Before k p x C) (eqb (group_of k at) (group_of k addr))
   stored-op addr way (ops.Evict at) h i = shut (left_of k x p c) (Before k p x C) (eqb (group_of k at) (group_of k addr))
 
-  pub store_comes : (addr : ℕ) (b : Option Begun) → IsAddr addr → IfSome b (λ o. IsAddr (address_in_op o.op))
+  pub store_comes : (addr : ℕ) (b : Option Begun) → IsAddr addr → IfSome b (λ o. IsAddr (asked.address_of o.op))
       → Agrees (left_of k x p c) (Before k p x C) (table.ends b (λ way op. table.written_row (p.caches c) c way addr op))
       (for_busy (group_of k addr) (begun_of k b) (λ o. stored_row (group_of k addr) c (tag_at k addr) o.way (word_of addr) rest o.op))
   store_comes addr None h i = tt

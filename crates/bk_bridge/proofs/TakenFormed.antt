@@ -14,12 +14,13 @@ use Rattle.bk_lce.specs.CacheTable as table
 use Rattle.bk_lce.specs.CacheTable.{Taken}
 use Rattle.bk_system.specs.State.{State}
 use Rattle.bk_system.specs.Events.{with_taken}
-use Rattle.bk_bridge.specs.Formed.{WellFormed, IsWhole, address_in_op}
+use Rattle.bk_bridge.specs.Formed.{WellFormed, IsWhole}
+use Rattle.bk_lce.specs.Asked as asked
 use Rattle.bk_bridge.proofs.Places.{start_IsAddr}
 use Rattle.bk_bridge.proofs.Formed.{cond-all, put-all, guard, requests-formed, responses-formed, fills-formed, HaveEight, line-formed}
 
 abbrev pub IsLawfulBusy : Option Begun → Type 0
-IsLawfulBusy o = IfSome o (λ b. IsAddr (address_in_op b.op))
+IsLawfulBusy o = IfSome o (λ b. IsAddr (asked.address_of b.op))
 
 pub record FormedTaken (t : Taken) : Type 0 where
   pub lines : HaveEight t.state.lines
@@ -47,7 +48,7 @@ pub record FormedCache (n : CacheState) : Type 0 where
 
 -- ISSUE
 
-asks-formed : (n : CacheState) (op : Operation) (way : ℕ) (m : Row) → FormedCache n → IsAddr (address_in_op op) → IsWhole m
+asks-formed : (n : CacheState) (op : Operation) (way : ℕ) (m : Row) → FormedCache n → IsAddr (asked.address_of op) → IsWhole m
     → FormedTaken (table.asks n op way m)
 asks-formed n op way m f a h = record { lines = f.lines; busy = a; sent = h }
 
@@ -75,7 +76,7 @@ evict-formed : (n : CacheState) (c addr : ℕ) (o : Option ℕ) → FormedCache 
 evict-formed n c addr None f a = record { lines = f.lines; busy = f.busy; sent = tt }
 evict-formed n c addr (Some v) f a = record { lines = f.lines; busy = a; sent = record { address = start_IsAddr addr a; block = tt } }
 
-issue_row-formed : (k : Shape) (n : CacheState) (c : ℕ) (op : Operation) (way : ℕ) → FormedCache n → IsAddr (address_in_op op)
+issue_row-formed : (k : Shape) (n : CacheState) (c : ℕ) (op : Operation) (way : ℕ) → FormedCache n → IsAddr (asked.address_of op)
     → FormedTaken (table.issue_row k n c op way)
 issue_row-formed k n c (ops.Load addr) way f a = load-formed k n c addr way (found k n addr) f a
 issue_row-formed k n c (ops.Store addr value) way f a = store-formed k n c addr value way (found k n addr) f a
@@ -87,7 +88,7 @@ idle-formed : (o : Option Begun) (t : Taken) → FormedTaken t → IfSome (table
 idle-formed None t h = h
 idle-formed (Some b) t h = tt
 
-pub issue-formed : (k : Shape) (n : CacheState) (c : ℕ) (op : Operation) (way : ℕ) → FormedCache n → IsAddr (address_in_op op)
+pub issue-formed : (k : Shape) (n : CacheState) (c : ℕ) (op : Operation) (way : ℕ) → FormedCache n → IsAddr (asked.address_of op)
     → IfSome (table.issue k n c op way) FormedTaken
 issue-formed k n c op way f a = idle-formed n.busy (table.issue_row k n c op way) (issue_row-formed k n c op way f a)
 
@@ -137,7 +138,7 @@ fills_line-formed k n c op addr answer v line f a e =
     record { lines = line-formed n.lines (group_of k addr) v line f e; busy = tt; sent = record { address = start_IsAddr addr a; block = tt } }
 
 grant-formed : (k : Shape) (n : CacheState) (c way : ℕ) (state : Coh) (addr : ℕ) (words : List ℕ) (op : Operation) → HaveEight n.lines
-    → IsAddr (address_in_op op) → length words ≡ 8
+    → IsAddr (asked.address_of op) → length words ≡ 8
     → IfSome (table.grant_row k n c way state addr words op) FormedTaken
 grant-formed k n c way state addr words (ops.Load at) f a e =
     guard FormedTaken (eqb (block_of at) (block_of addr)) _ (fills_line-formed k n c (ops.Load at) at _ way _ f a e)
@@ -155,7 +156,7 @@ granted-formed : (k : Shape) (n : CacheState) (c way : ℕ) (state : Coh) (addr 
 granted-formed k n c way state addr words None f a e = tt
 granted-formed k n c way state addr words (Some b) f a e = guard FormedTaken (eqb b.way way) _ (grant-formed k n c way state addr words b.op f a e)
 
-wake-formed : (k : Shape) (n : CacheState) (c way addr : ℕ) (op : Operation) → HaveEight n.lines → IsAddr (address_in_op op)
+wake-formed : (k : Shape) (n : CacheState) (c way addr : ℕ) (op : Operation) → HaveEight n.lines → IsAddr (asked.address_of op)
     → IfSome (table.wake_row k n c way addr op) FormedTaken
 wake-formed k n c way addr (ops.Store at value) f a =
     guard FormedTaken (eqb (block_of at) (block_of addr) && holds (line_at k n at way) (tag_at k at)) _
@@ -171,12 +172,12 @@ woken-formed k n c way addr None f a = tt
 woken-formed k n c way addr (Some b) f a = guard FormedTaken (eqb b.way way) _ (wake-formed k n c way addr b.op f a)
 
 ends-formed : (o : Option Begun) (row : ℕ → Operation → Option Taken) → IsLawfulBusy o
-    → ((way : ℕ) (op : Operation) → IsAddr (address_in_op op) → IfSome (row way op) FormedTaken)
+    → ((way : ℕ) (op : Operation) → IsAddr (asked.address_of op) → IfSome (row way op) FormedTaken)
     → IfSome (table.ends o row) FormedTaken
 ends-formed None row a h = tt
 ends-formed (Some b) row a h = h b.way b.op a
 
-word-formed : (n : CacheState) (c way addr word : ℕ) (op : Operation) → HaveEight n.lines → IsAddr (address_in_op op)
+word-formed : (n : CacheState) (c way addr word : ℕ) (op : Operation) → HaveEight n.lines → IsAddr (asked.address_of op)
     → IfSome (table.word_row n c way addr word op) FormedTaken
 word-formed n c way addr word (ops.UcLoad at) f a = guard FormedTaken (eqb at addr) _ (completes-formed n c (ops.UcLoad at) at word way f a)
 word-formed n c way addr word (ops.Load at) f a = tt
@@ -184,7 +185,7 @@ word-formed n c way addr word (ops.Store at value) f a = tt
 word-formed n c way addr word (ops.UcStore at value) f a = tt
 word-formed n c way addr word (ops.Evict at) f a = tt
 
-written-formed : (n : CacheState) (c way addr : ℕ) (op : Operation) → HaveEight n.lines → IsAddr (address_in_op op)
+written-formed : (n : CacheState) (c way addr : ℕ) (op : Operation) → HaveEight n.lines → IsAddr (asked.address_of op)
     → IfSome (table.written_row n c way addr op) FormedTaken
 written-formed n c way addr (ops.UcStore at value) f a =
     guard FormedTaken (eqb at addr) _ (completes-formed n c (ops.UcStore at value) at 0 way f a)
@@ -193,7 +194,7 @@ written-formed n c way addr (ops.Store at value) f a = tt
 written-formed n c way addr (ops.UcLoad at) f a = tt
 written-formed n c way addr (ops.Evict at) f a = tt
 
-evicted-formed : (n : CacheState) (c way addr : ℕ) (op : Operation) → HaveEight n.lines → IsAddr (address_in_op op)
+evicted-formed : (n : CacheState) (c way addr : ℕ) (op : Operation) → HaveEight n.lines → IsAddr (asked.address_of op)
     → IfSome (table.evicted_row n c way addr op) FormedTaken
 evicted-formed n c way addr (ops.Evict at) f a =
     guard FormedTaken (eqb (block_of at) (block_of addr)) _ (completes-formed n c (ops.Evict at) at 0 way f a)

@@ -2,13 +2,12 @@
 -- networks, blocks have eight words, and addresses are those of words.
 use Rattle.std.specs.Prelude.{◌≡◌, ◌<◌, ℕ, List, [], ◌∷◌, length, IfSome}
 use Rattle.bk_base.specs.Places.{Shape, InProfile, IsAddr, tag_limit}
-use Rattle.bk_base.specs.declared.op.Op.{Op}
-use Rattle.bk_base.specs.declared.op.Op.TheVariants.{Load, Store, UcLoad, UcStore, Evict}
 use Rattle.bk_msg.specs.declared.row.Row.{Row}
 use Rattle.bk_msg.specs.declared.row.Row.TheVariants as rows
 use Rattle.bk_msg.specs.declared.row.Network.{Network}
 use Rattle.bk_msg.specs.declared.row.Network.TheVariants as networks
 use Rattle.bk_msg.specs.Networks.{network_of, address_of}
+use Rattle.bk_lce.specs.Asked as asked
 use Rattle.bk_engine.specs.Core.{EngineState}
 use Rattle.bk_system.specs.declared.event.Event.{Event}
 use Rattle.bk_system.specs.declared.event.Event.TheVariants as events
@@ -16,17 +15,10 @@ use Rattle.bk_system.specs.State.{State}
 
 -- EVENTS
 
-abbrev pub address_in_op : Op → ℕ
-address_in_op (Load addr) = addr
-address_in_op (Store addr value) = addr
-address_in_op (UcLoad addr) = addr
-address_in_op (UcStore addr value) = addr
-address_in_op (Evict addr) = addr
-
 -- An event as the product's types have it: an operation's address is below 2^40 and a multiple of 8. (Nothing here wants a bound
 -- on values.)
 abbrev pub IsLawful : Event → Type 0
-IsLawful (events.Issue c op way) = IsAddr (address_in_op op)
+IsLawful (events.Issue c op way) = IsAddr (asked.address_of op)
 IsLawful (events.Command c) = Unit {0}
 IsLawful (events.Fill to from) = Unit {0}
 IsLawful events.Memory = Unit {0}
@@ -75,7 +67,7 @@ pub record WellFormedEngine (k : Shape) (n : EngineState) : Type 0 where
 pub record WellFormed (k : Shape) (n : State) : Type 0 where
   pub profile : InProfile k
   pub lines : (c s w : ℕ) → length ((n.caches c).lines s w).words ≡ 8
-  pub busy : (c : ℕ) → IfSome (n.caches c).busy (λ b. IsAddr (address_in_op b.op))
+  pub busy : (c : ℕ) → IfSome (n.caches c).busy (λ b. IsAddr (asked.address_of b.op))
   pub request : (c : ℕ) → AreOf networks.Request (n.request c)
   pub command : (c : ℕ) → AreOf networks.Command (n.command c)
   pub fill : (to from : ℕ) → AreOf networks.Fill (n.fill to from)

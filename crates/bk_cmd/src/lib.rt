@@ -19,6 +19,8 @@ pub use outcome::{
 pub use run::run_plain;
 
 #[cfg(test)]
+mod events;
+#[cfg(test)]
 mod programs;
 #[cfg(test)]
 mod rows;

@@ -39,7 +39,19 @@ struct Row {
     report: &'static str,
 }
 
-const ROWS: [Row; 11] = [
+const ROWS: [Row; 12] = [
+    // The last word that there is, and the greatest value, past the caches.
+    Row {
+        protocol: Protocol::Mesi,
+        trace: "config 2 4 2\n0 US 0xfffffffff8 18446744073709551615\n1 UL 0xfffffffff8\n",
+        report: "\
+0 US 0xfffffffff8 18446744073709551615
+1 UL 0xfffffffff8 = 18446744073709551615
+events issue 2 command 2 fill 0 memory 2 engine 47
+messages request 2 command 2 fill 0 response 2 memout 2 memin 1
+end rested
+",
+    },
     // A load is granted E, and the store needs no message.
     Row {
         protocol: Protocol::Ei,
@@ -259,6 +271,9 @@ fn the_report_of_a_large_run_is_that_of_its_events(rt: HostRuntime) -> Result<()
     let first = report_of_drawn(alloc)?;
     assert!(rt; first.ends_with("end rested\n".as_bytes()));
     assert!(rt; first == report_of_events(alloc)?);
+    let image = read_image(alloc, &MOESIF)?;
+    let trace = read_trace(alloc, &drawn(alloc)?)?;
+    assert!(rt; report(alloc, &image, &trace, &[])?.ends_with("end unrested\n".as_bytes()));
     Ok(())
 }
 

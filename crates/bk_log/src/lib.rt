@@ -6,6 +6,3 @@ mod logs;
 mod messages;
 
 pub use logs::log;
-
-#[cfg(test)]
-mod tests;

@@ -19,6 +19,3 @@ pub use event::{Event, Group};
 pub use hardware::Hardware;
 pub use heads::{MEMORY_ANSWERS, REQUESTS, RESPONSES};
 pub use memory::MainMemory;
-
-#[cfg(test)]
-mod tests;
