@@ -1,5 +1,7 @@
 -- What keeps a state well formed: messages at the end of channels, heads taken, lines written.
-use Rattle.std.proofs.Common.{◌≡◌, ℕ, Bool, true, false, cond, eqb, refl, List, [], ◌∷◌, ◌++◌, length, drop, Option, Some, None, IfSome}
+use Rattle.std.proofs.Common.{◌≡◌, ℕ, Bool, true, false, cond, eqb, refl, sym, subst, arith, List, [], ◌∷◌, ◌++◌, length, drop, Option, Some, None, IfSome}
+use Rattle.std.proofs.lemmas.Bool.{cond_both}
+use Rattle.std.proofs.lemmas.Bool.Decides.{nat_tests}
 use Rattle.bk_base.specs.Tables.{put}
 use Rattle.bk_msg.specs.declared.row.Row.{Row}
 use Rattle.bk_msg.specs.declared.row.Network.{Network}
@@ -16,6 +18,14 @@ cond-all P false x y p q = q
 pub put-all : {X : Type 0} (P : X → Type 0) (m : ℕ → X) (c : ℕ) (v : X) → ((i : ℕ) → P (m i)) → P v → (i : ℕ) → P (put m c v i)
 unfolding put
 put-all P m c v h p i = cond-all P (eqb i c) v (m i) p (h i)
+
+same-number : (j c : ℕ) → eqb j c ≡ true → j ≡ c
+same-number j c e = grind (arith, nat_tests)
+
+-- the same of what hangs on the number too
+pub put-each : {X : Type 0} (P : ℕ → X → Type 0) (m : ℕ → X) (c : ℕ) (v : X) → ((i : ℕ) → P i (m i)) → P c v → (i : ℕ) → P i (put m c v i)
+unfolding put
+put-each P m c v h p i = cond_both (eqb i c) v (m i) (P i) (λ e. subst (λ j. P j v) (sym (same-number i c e)) p) (λ e. h i)
 
 pub guard : {X : Type 0} (P : X → Type 0) (b : Bool) (o : Option X) → IfSome o P → IfSome (cond b o None) P
 guard P true o h = h

@@ -17,6 +17,9 @@ pub mod CommandEvent
 pub mod FillEvent
 pub mod Opening
 pub mod Formed
+pub mod Fronts
+pub mod Inside
+pub mod Ranges
 pub mod TakenFormed
 pub mod Keeps
 pub mod Law

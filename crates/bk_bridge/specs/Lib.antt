@@ -1,3 +1,5 @@
 pub mod Worlds
 pub mod Formed
+pub mod Fronts
+pub mod Ranges
 pub mod Bridge

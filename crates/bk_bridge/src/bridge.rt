@@ -1,16 +1,28 @@
 ghost use Rattle.bk_bridge.specs.Bridge.{OpensEmpty, OpensFormed, EventsAreSteps, EventsKeepForm, RunsKeepForm, ReachedStatesStep, RunsAreRuns, RunsFromOpening};
+ghost use Rattle.bk_bridge.specs.Fronts.{EventsKeepFront, RunsHoldFront};
+ghost use Rattle.bk_bridge.specs.Ranges.{EventsKeepRange, RunsInRange};
 
 /// Outside the engine the system is the abstract machine. The opening state is the empty machine. Each Issue, Command, Fill and
 /// Memory event of a well-formed state is a step of the machine, or it isn't enabled in both. So a run of such events is the
-/// machine's run of theirs. Each state of a run with whatever events and program is well formed. An operation's address has to be
-/// that of a word.
+/// machine's run of theirs. An operation's address has to be that of a word.
 pub fn quiet_runs()
     ensures opens_empty { OpensEmpty }
-    ensures opens_formed { OpensFormed }
-    ensures events_form { EventsKeepForm }
-    ensures runs_form { RunsKeepForm }
     ensures steps { EventsAreSteps }
     ensures reached { ReachedStatesStep }
     ensures runs { RunsAreRuns }
     ensures whole { RunsFromOpening }
+{}
+
+/// What holds in each state of a run, with whatever events and program. It is well formed: messages stand in the channels of their
+/// own networks, blocks have eight words, addresses are those of words. The head that the engine looks at stands first in its channel:
+/// no other agent takes it off. And it is in range: messages, engine and directory name caches, sets and ways of the configuration
+/// alone.
+pub fn reached_states()
+    ensures opens_formed { OpensFormed }
+    ensures events_form { EventsKeepForm }
+    ensures runs_form { RunsKeepForm }
+    ensures events_front { EventsKeepFront }
+    ensures runs_front { RunsHoldFront }
+    ensures events_range { EventsKeepRange }
+    ensures runs_range { RunsInRange }
 {}

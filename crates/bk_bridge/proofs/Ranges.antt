@@ -1,0 +1,284 @@
+-- Each event leaves a state in which what names a cache, a set or a way names one of the configuration.
+use Rattle.std.proofs.Common.{◌≡◌, ℕ, ◌<◌, ◌≤◌, Bool, true, false, ◌&&◌, ◌==◌, refl, sym, subst, List, [], ◌∷◌, ◌++◌, length, Option, Some, None, IfSome, slice_get, option_to_list, append-nil, arith}
+use Rattle.std.specs.Prelude.{All, nat_lt, nat_le}
+use Rattle.std.proofs.lemmas.Bool.{cond_both, and_parts, leb-true}
+use Rattle.std.proofs.lemmas.Bool.Decides.{nat_tests}
+use Rattle.std.proofs.lemmas.List.Elements.{All-nil, All-head, All-tail, All-push, All-drop}
+use Rattle.bk_base.specs.Places.{Shape, InProfile}
+use Rattle.bk_base.specs.declared.op.Op.{Op}
+use Rattle.bk_isa.specs.declared.form.Form.{Form}
+use Rattle.bk_msg.specs.declared.row.Row.{Row}
+use Rattle.bk_msg.specs.declared.row.Row.TheVariants as rows
+use Rattle.bk_msg.specs.Networks.{network_of, receiver_of}
+use Rattle.bk_msg.specs.Within.{IsWithin}
+use Rattle.bk_lce.specs.declared.line.InProgress.{InProgress}
+use Rattle.bk_lce.specs.CacheTable as table
+use Rattle.bk_lce.specs.CacheTable.{Taken, if_idle, issue_row}
+use Rattle.bk_lce.proofs.Proper.{issue_is, command_is, fill_is}
+use Rattle.bk_engine.specs.declared.parts.Choice.{Choice}
+use Rattle.bk_engine.specs.Core.{EngineState}
+use Rattle.bk_engine.specs.Kept.{IsSound}
+use Rattle.bk_engine.specs.Changes.{core_changed}
+use Rattle.bk_engine.specs.Outward.{IsOutward}
+use Rattle.bk_engine.specs.Sends.{sends}
+use Rattle.bk_engine.specs.Step.{Outcome, ran_at, runs_to}
+use Rattle.bk_engine.proofs.Sound.{sound_new, sound_after}
+use Rattle.bk_engine.proofs.Outward.{sends_outward}
+use Rattle.bk_system.specs.declared.event.Event.{Event}
+use Rattle.bk_system.specs.declared.event.Event.TheVariants as events
+use Rattle.bk_system.specs.State.{State, opening}
+use Rattle.bk_system.specs.Memory.{answer_to}
+use Rattle.bk_system.specs.Events.{first, added_if, is_request, is_response, is_fill, is_command, is_memout, requests_with, responses_with, fills_with, commands_with, memout_with, heads_left, memin_left, with_taken, takes, accessed, offered, can_run, with_outcome, engine_row, issue_taken, command_of, command_taken, fill_of, fill_taken, without_command, without_fill}
+use Rattle.bk_system.specs.Runs.{state_after_row, after, run_from}
+use Rattle.bk_bridge.specs.Ranges.{IsInside, InRange}
+use Rattle.bk_bridge.proofs.Formed.{cond-all, put-all}
+use Rattle.bk_bridge.proofs.Fronts.{source-of}
+use Rattle.bk_bridge.proofs.Inside.{directory-inside}
+
+some-ways : (k : Shape) → InProfile k → 0 < k.ways
+some-ways k p = let least : 1 ≤ k.ways = leb-true 1 k.ways (and_parts (nat_le 1 k.ways) (nat_le k.ways 8) p.ways).0 in omega arith
+
+-- CHANNELS
+
+module _ (k : Shape) where
+  abbrev AreWithin : List Row → Type 0
+  AreWithin = All (IsWithin k)
+
+  sent-within : (here : Bool) (c : ℕ) (m : Row) (channel : ℕ → List Row) → IsWithin k m → ((i : ℕ) → AreWithin (channel i)) → (i : ℕ) → AreWithin (added_if here c m channel i)
+  sent-within true c m channel w h = put-all AreWithin channel c _ h (All-push (IsWithin k) (channel c) m (h c) w)
+  sent-within false c m channel w h = h
+
+  requests-within : (c : ℕ) (o : Option Row) (channel : ℕ → List Row) → ((m : Row) → o ≡ Some m → IsWithin k m) → ((i : ℕ) → AreWithin (channel i)) → (i : ℕ)
+      → AreWithin (requests_with c o channel i)
+  requests-within c None channel w h = h
+  requests-within c (Some m) channel w h = sent-within (is_request (network_of m)) c m channel (w m refl) h
+
+  responses-within : (c : ℕ) (o : Option Row) (channel : ℕ → List Row) → ((m : Row) → o ≡ Some m → IsWithin k m) → ((i : ℕ) → AreWithin (channel i)) → (i : ℕ)
+      → AreWithin (responses_with c o channel i)
+  responses-within c None channel w h = h
+  responses-within c (Some m) channel w h = sent-within (is_response (network_of m)) c m channel (w m refl) h
+
+  fills-within : (c : ℕ) (o : Option Row) (channel : ℕ → ℕ → List Row) → ((m : Row) → o ≡ Some m → IsWithin k m) → ((i j : ℕ) → AreWithin (channel i j)) → (i j : ℕ)
+      → AreWithin (fills_with c o channel i j)
+  fills-within c None channel w h = h
+  fills-within c (Some m) channel w h =
+      cond-all (λ (f : ℕ → ℕ → List Row). (i j : ℕ) → AreWithin (f i j)) (is_fill (network_of m)) _ channel
+      (put-all (λ (row : ℕ → List Row). (j : ℕ) → AreWithin (row j)) channel (receiver_of m) _ h
+      (put-all AreWithin (channel (receiver_of m)) c _ (h (receiver_of m)) (All-push (IsWithin k) (channel (receiver_of m) c) m (h (receiver_of m) c) (w m refl)))) h
+
+  commands-within : (ms : List Row) (channel : ℕ → List Row) → All (IsOutward k) ms → ((i : ℕ) → AreWithin (channel i)) → (i : ℕ) → AreWithin (commands_with ms channel i)
+  commands-within [] channel o h = h
+  commands-within (m ∷ ms) channel o h = commands-within ms _ (All-tail (IsOutward k) m ms o)
+      (sent-within (is_command (network_of m)) (receiver_of m) m channel (All-head (IsOutward k) m ms o).within h)
+
+  memout-within : (ms channel : List Row) → All (IsOutward k) ms → AreWithin channel → AreWithin (memout_with ms channel)
+  memout-within [] channel o h = h
+  memout-within (m ∷ ms) channel o h = memout-within ms _ (All-tail (IsOutward k) m ms o)
+      (cond-all AreWithin (is_memout (network_of m)) _ channel (All-push (IsWithin k) channel m h (All-head (IsOutward k) m ms o).within) h)
+
+  heads-within : (class : ℕ) (popped : Option Choice) (channel : ℕ → List Row) → ((i : ℕ) → AreWithin (channel i)) → (i : ℕ) → AreWithin (heads_left class popped channel i)
+  heads-within class None channel h = h
+  heads-within class (Some choice) channel h =
+      cond-all (λ (f : ℕ → List Row). (i : ℕ) → AreWithin (f i)) (choice.class == class) _ channel
+      (put-all AreWithin channel choice.source _ h (All-drop (IsWithin k) 1 (channel choice.source) (h choice.source))) h
+
+  memin-within : (popped : Option Choice) (memin : List Row) → AreWithin memin → AreWithin (memin_left popped memin)
+  memin-within None memin h = h
+  memin-within (Some choice) memin h = cond-all AreWithin (choice.class == 2) _ memin (All-drop (IsWithin k) 1 memin h) h
+
+  first-within : (ms : List Row) (m : Row) → AreWithin ms → first ms ≡ Some m → IsWithin k m
+  first-within [] m h e = absurd (cc)
+  first-within (x ∷ ms) m h e = let same : x ≡ m = cc in subst (IsWithin k) same (All-head (IsWithin k) x ms h)
+
+  -- CACHES
+
+  taken-range : (n : State) (c : ℕ) (t : Taken) → InRange k n → ((m : Row) → t.sent ≡ Some m → IsWithin k m) → InRange k (with_taken n c t).state
+  taken-range n c t r w = record {
+    request = requests-within c t.sent n.request w r.request;
+    command = r.command;
+    response = responses-within c t.sent n.response w r.response;
+    fill = fills-within c t.sent n.fill w r.fill;
+    memout = r.memout;
+    memin = r.memin;
+    engine = r.engine;
+    directory = r.directory;
+  }
+
+  abbrev SendsWithin : Option Taken → Type 0
+  SendsWithin o = IfSome o (λ t. (m : Row) → t.sent ≡ Some m → IsWithin k m)
+
+  row-range : (n p : State) (c : ℕ) (o : Option Taken) → InRange k n → InRange k p → SendsWithin o → InRange k (state_after_row n (takes p c o))
+  row-range n p c None r q w = r
+  row-range n p c (Some t) r q w = taken-range p c t q w
+
+  -- where the cache is one of the configuration
+  below : (a b : ℕ) → nat_lt a b ≡ true → a < b
+  below a b e = grind (arith, nat_tests)
+
+  idle-within : (b : Option InProgress) (t : Taken) → ((m : Row) → t.sent ≡ Some m → IsWithin k m) → SendsWithin (if_idle b t)
+  idle-within None t w = w
+  idle-within (Some busy) t w = tt
+
+  issue-within : (n : State) (c : ℕ) (op : Op) (way : ℕ) → SendsWithin (issue_taken k n c op way)
+  issue-within n c op way =
+      cond_both (nat_lt c k.caches && nat_lt way k.ways) (table.issue k (n.caches c) c op way) None SendsWithin
+      (λ e. let both = and_parts (nat_lt c k.caches) (nat_lt way k.ways) e in
+      idle-within (n.caches c).busy (issue_row k (n.caches c) c op way) (issue_is k (n.caches c) c (below c k.caches both.0) op way (below way k.ways both.1)).within)
+      (λ e. tt)
+
+  may-be : (o : Option Taken) → ((t : Taken) → o ≡ Some t → (m : Row) → t.sent ≡ Some m → IsWithin k m) → SendsWithin o
+  may-be None h = tt
+  may-be (Some t) h = h t refl
+
+  command_of-within : (n : State) (c : ℕ) (ms : List Row) → c < k.caches → AreWithin ms → SendsWithin (command_of k n c (first ms))
+  command_of-within n c [] l h = tt
+  command_of-within n c (m ∷ ms) l h =
+      may-be (table.command k (n.caches c) c m) (λ t e. (command_is k (n.caches c) c l m (All-head (IsWithin k) m ms h) t e).within)
+
+  command-within : (n : State) (c : ℕ) → InRange k n → SendsWithin (command_taken k n c)
+  command-within n c r =
+      cond_both (nat_lt c k.caches) (command_of k n c (first (n.command c))) None SendsWithin
+      (λ e. command_of-within n c (n.command c) (below c k.caches e) (r.command c)) (λ e. tt)
+
+  fill_of-within : (n : State) (to : ℕ) (ms : List Row) → to < k.caches → SendsWithin (fill_of k n to (first ms))
+  fill_of-within n to [] l = tt
+  fill_of-within n to (m ∷ ms) l = may-be (table.fill k (n.caches to) to m) (λ t e. (fill_is k (n.caches to) to l m t e).within)
+
+  fill-within : (n : State) (to from : ℕ) → SendsWithin (fill_taken k n to from)
+  fill-within n to from =
+      cond_both (nat_lt to k.caches && nat_lt from k.caches) (fill_of k n to (first (n.fill to from))) None SendsWithin
+      (λ e. fill_of-within n to (n.fill to from) (below to k.caches (and_parts (nat_lt to k.caches) (nat_lt from k.caches) e).0)) (λ e. tt)
+
+  command-left : (n : State) (c : ℕ) → InRange k n → InRange k (without_command n c)
+  command-left n c r = record {
+    request = r.request;
+    command = put-all AreWithin n.command c _ r.command (All-drop (IsWithin k) 1 (n.command c) (r.command c));
+    response = r.response;
+    fill = r.fill;
+    memout = r.memout;
+    memin = r.memin;
+    engine = r.engine;
+    directory = r.directory;
+  }
+
+  fill-left : (n : State) (to from : ℕ) → InRange k n → InRange k (without_fill n to from)
+  fill-left n to from r = record {
+    request = r.request;
+    command = r.command;
+    response = r.response;
+    fill = put-all (λ (row : ℕ → List Row). (j : ℕ) → AreWithin (row j)) n.fill to _ r.fill
+        (put-all AreWithin (n.fill to) from _ (r.fill to) (All-drop (IsWithin k) 1 (n.fill to from) (r.fill to from)));
+    memout = r.memout;
+    memin = r.memin;
+    engine = r.engine;
+    directory = r.directory;
+  }
+
+  -- MEMORY
+
+  -- a Block names no cache
+  answered-within : (memory : ℕ → ℕ) (m : Row) (memin : List Row) → AreWithin memin → AreWithin (memin ++ option_to_list (answer_to memory m))
+  answered-within memory m memin h = go (answer_to memory m) (answer-within m)
+    where
+      answer-within : (m : Row) → IfSome (answer_to memory m) (IsWithin k)
+      answer-within (rows.Read _ _ addr) = tt
+      answer-within m = tt
+
+      go : (o : Option Row) → IfSome o (IsWithin k) → AreWithin (memin ++ option_to_list o)
+      go None w = subst AreWithin (sym (append-nil memin)) h
+      go (Some r) w = All-push (IsWithin k) memin r h w
+
+  memory-range : (n : State) (o : Option Row) → InRange k n → InRange k (state_after_row n (accessed n o))
+  memory-range n None r = r
+  memory-range n (Some m) r = record {
+    request = r.request;
+    command = r.command;
+    response = r.response;
+    fill = r.fill;
+    memout = All-drop (IsWithin k) 1 n.memout r.memout;
+    memin = answered-within n.memory m n.memin r.memin;
+    engine = r.engine;
+    directory = r.directory;
+  }
+
+  -- THE ENGINE
+
+  record OutcomeInRange (o : Outcome) : Type 0 where
+    engine : IsSound k o.engine.core
+    directory : IsInside k o.engine.directory
+    sent : All (IsOutward k) o.sent
+
+  ran-range : (n : EngineState) (o : Option Form) (choice : Choice) (message : Option Row) → InProfile k → choice.source < k.caches
+      → ((m : Row) → message ≡ Some m → IsWithin k m) → IsSound k n.core → IsInside k n.directory → OutcomeInRange (ran_at k n o choice message)
+  ran-range n None choice message p l w s d = record { engine = s; directory = d; sent = All-nil (IsOutward k) }
+  ran-range n (Some f) choice message p l w s d = record {
+    engine = sound_after k n.core (core_changed n.core (length (sends k n f)) f choice message) (length (sends k n f)) f choice message _ (some-ways k p) l w s refl;
+    directory = directory-inside k n f p (some-ways k p) s d;
+    sent = sends_outward k n f s;
+  }
+
+  outcome-range : (n : State) (o : Outcome) → InRange k n → OutcomeInRange o → InRange k (with_outcome k n o).state
+  outcome-range n o r h = record {
+    request = heads-within 3 o.popped n.request r.request;
+    command = commands-within o.sent n.command h.sent r.command;
+    response = heads-within 1 o.popped n.response r.response;
+    fill = r.fill;
+    memout = memout-within o.sent n.memout h.sent r.memout;
+    memin = memin-within o.popped n.memin r.memin;
+    engine = h.engine;
+    directory = h.directory;
+  }
+
+  offered-within : (n : State) (choice : Choice) → InRange k n → IfSome (offered n choice) (IsWithin k)
+  offered-within n choice r =
+      cond-all Whole (choice.class == 1) _ _ (head (n.response choice.source) (r.response choice.source))
+      (cond-all Whole (choice.class == 2) _ _ (cond-all Whole (choice.source == 0) _ None (head n.memin r.memin) tt)
+      (cond-all Whole (choice.class == 3) _ None (head (n.request choice.source) (r.request choice.source)) tt))
+    where
+      Whole : Option Row → Type 0
+      Whole o = IfSome o (IsWithin k)
+
+      head : (ms : List Row) → AreWithin ms → Whole (first ms)
+      head [] h = tt
+      head (m ∷ ms) h = All-head (IsWithin k) m ms h
+
+  named : (o : Option Row) → IfSome o (IsWithin k) → (m : Row) → o ≡ Some m → IsWithin k m
+  named None h m e = absurd (cc)
+  named (Some x) h m e = let same : x ≡ m = cc in subst (IsWithin k) same h
+
+  engine-range : (program : List Form) (n : State) (choice : Choice) → InProfile k → InRange k n → InRange k (state_after_row n (engine_row k program n choice))
+  engine-range program n choice p r =
+      let outcome : Outcome = runs_to k n.engine program choice (offered n choice) in
+      cond_both (can_run k program n choice) (Some (with_outcome k n outcome)) None (λ o. InRange k (state_after_row n o))
+      (λ e. outcome-range n outcome r
+      (ran-range n.engine (slice_get program n.engine.core.place) choice (offered n choice) p (source-of choice.source k.caches _ _ e)
+      (named (offered n choice) (offered-within n choice r)) r.engine r.directory))
+      (λ e. r)
+
+-- EVENTS AND RUNS
+
+pub event-range : (k : Shape) (program : List Form) (n : State) (e : Event) → InProfile k → InRange k n → InRange k (after k program n e)
+event-range k program n (events.Issue c op way) p r = row-range k n n c (issue_taken k n c op way) r r (issue-within k n c op way)
+event-range k program n (events.Command c) p r = row-range k n (without_command n c) c (command_taken k n c) r (command-left k n c r) (command-within k n c r)
+event-range k program n (events.Fill to from) p r = row-range k n (without_fill n to from) to (fill_taken k n to from) r (fill-left k n to from r) (fill-within k n to from)
+event-range k program n events.Memory p r = memory-range k n (first n.memout) r
+event-range k program n (events.Engine choice) p r = engine-range k program n choice p r
+
+run-range : (k : Shape) (program : List Form) (n : State) (es : List Event) → InProfile k → InRange k n → InRange k (run_from k program n es)
+run-range k program n [] p r = r
+run-range k program n (e ∷ es) p r = run-range k program (after k program n e) es p (event-range k program n e p r)
+
+opening-range : (k : Shape) → InRange k (opening k)
+opening-range k = record {
+  request = λ c. All-nil (IsWithin k);
+  command = λ c. All-nil (IsWithin k);
+  response = λ c. All-nil (IsWithin k);
+  fill = λ to from. All-nil (IsWithin k);
+  memout = All-nil (IsWithin k);
+  memin = All-nil (IsWithin k);
+  engine = sound_new k;
+  directory = λ c s w e. absurd (cc);
+}
+
+pub runs-range : (k : Shape) (program : List Form) (es : List Event) → InProfile k → InRange k (run_from k program (opening k) es)
+runs-range k program es p = run-range k program (opening k) es p (opening-range k)
