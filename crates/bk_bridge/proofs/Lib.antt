@@ -20,6 +20,7 @@ pub mod Formed
 pub mod Fronts
 pub mod Inside
 pub mod Ranges
+pub mod Readings
 pub mod TakenFormed
 pub mod Keeps
 pub mod Law

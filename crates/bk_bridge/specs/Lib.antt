@@ -2,4 +2,5 @@ pub mod Worlds
 pub mod Formed
 pub mod Fronts
 pub mod Ranges
+pub mod Readings
 pub mod Bridge

@@ -1,6 +1,7 @@
 ghost use Rattle.bk_bridge.specs.Bridge.{OpensEmpty, OpensFormed, EventsAreSteps, EventsKeepForm, RunsKeepForm, ReachedStatesStep, RunsAreRuns, RunsFromOpening};
 ghost use Rattle.bk_bridge.specs.Fronts.{EventsKeepFront, RunsHoldFront};
 ghost use Rattle.bk_bridge.specs.Ranges.{EventsKeepRange, RunsInRange};
+ghost use Rattle.bk_bridge.specs.Readings.{SummariesAlike};
 
 /// Outside the engine the system is the abstract machine. The opening state is the empty machine. Each Issue, Command, Fill and
 /// Memory event of a well-formed state is a step of the machine, or it isn't enabled in both. So a run of such events is the
@@ -25,4 +26,10 @@ pub fn reached_states()
     ensures runs_front { RunsHoldFront }
     ensures events_range { EventsKeepRange }
     ensures runs_range { RunsInRange }
+{}
+
+/// What the engine reads of a request in its directory, own, owner, others and victim, is what the machine reads there, and it sends
+/// an invalidation to just the caches of the machine's list.
+pub fn engine_readings()
+    ensures { SummariesAlike }
 {}
