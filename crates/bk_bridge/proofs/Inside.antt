@@ -43,7 +43,7 @@ state-inside k d c s w state at h = entry-inside k d c s w (record { tag = (d.en
 
 -- THE PLACES OF A REQUEST
 
-group-within : (k : Shape) (addr : ℕ) → InProfile k → group_of k addr < k.sets
+pub group-within : (k : Shape) (addr : ℕ) → InProfile k → group_of k addr < k.sets
 group-within k addr p = mod-lt _ (sets_pos k p)
 
 own-within : (k : Shape) (d : Contents) (asked : Asked) (s : Summary) → 0 < k.ways → OwnSays k d asked s → s.own_way < k.ways

@@ -21,6 +21,8 @@ pub mod Fronts
 pub mod Inside
 pub mod Ranges
 pub mod Readings
+pub mod Effects
+pub mod Instructions
 pub mod TakenFormed
 pub mod Keeps
 pub mod Law

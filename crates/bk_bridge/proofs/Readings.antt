@@ -1,5 +1,5 @@
 -- The engine's summary of a directory is what the table machine reads of it.
-use Rattle.std.proofs.Common.{◌≡◌, ℕ, zero, suc, ◌+◌, ◌<◌, ◌^◌, Bool, true, false, cond, eqb, ltb, not, ◌&&◌, ◌||◌, ◌==◌, refl, sym, ap, subst, ◌∙◌, List, ◌∷◌, Option, Some, None, arith}
+use Rattle.std.proofs.Common.{◌≡◌, ℕ, zero, suc, ◌+◌, ◌<◌, ◌≤◌, ◌^◌, Bool, true, false, cond, eqb, ltb, not, ◌&&◌, ◌||◌, ◌==◌, refl, sym, ap, subst, ◌∙◌, List, ◌∷◌, Option, Some, None, arith}
 use Rattle.std.specs.Prelude.{is_some, option_map, unwrap_or, if◌then◌else◌}
 use Rattle.std.proofs.lemmas.Bool.{lt-ltb}
 use Rattle.std.proofs.lemmas.Bool.Decides.{nat_tests}
@@ -14,6 +14,7 @@ use Rattle.bk_dir.specs.Contents.{Contents}
 use Rattle.bk_dir.specs.Summaries.{holds, is_shared, found, owner_way, shares, state_at, with_cache, owner_at, owner, owner_state, is_other, bits_below, has_bit, summary}
 use Rattle.bk_dir.proofs.SummaryLaws.{bits-law}
 use Rattle.bk_engine.specs.Sends.{is_owner}
+use Rattle.bk_engine.proofs.Outward.{owner-within}
 use Rattle.bk_machine.specs.Actions.{sent_to}
 use Rattle.bk_machine.specs.Directory as machine
 use Rattle.bk_machine.specs.Entries.{times}
@@ -191,6 +192,18 @@ sent-once true (Some e) os q c h = go (q e) refl (h e)
     go true i j = let t = h c in grind (arith, nat_tests)
     go false i j = let t = h c in grind (arith, nat_tests)
 
+-- a cache beyond the configuration is no owner
+beyond-owner : (k : Shape) (d : Contents) (asked : Asked) (c : ℕ) (o : Option (ℕ × ℕ)) → owner k d asked ≡ o → k.caches ≤ c → is_owner o c ≡ false
+beyond-owner k d asked c None e l = refl
+beyond-owner k d asked c (Some at) e l = let below : at.0 < k.caches = (owner-within k d asked at e).cache_within in grind (arith, nat_tests)
+
+pub at-least : (c n : ℕ) → n ≤ c → ltb c n ≡ false
+at-least c n l = grind (arith, nat_tests)
+
+no-one : (w a b o : Bool) → a ≡ false → o ≡ false → ((a && b) || (w && o)) ≡ false
+no-one true a b o e f = rw (e, f) refl
+no-one false a b o e f = rw e refl
+
 pub reads_alike : (k : Shape) (d : Contents) (asked : Asked) → ReadsAlike k d asked (summary k d asked)
 reads_alike k d asked = record {
   own = state-same k d asked asked.cache (found k d asked.cache asked.set asked.tag) ∙ ap (machine.state_at (seen d asked.set asked.cache)) (own-found k d asked);
@@ -207,4 +220,10 @@ reads_alike k d asked = record {
       ap (λ (b : Bool). b || (w && is_owner (owner k d asked) c)) (bit-same k d asked c l ∙ here)
       ∙ ap (λ (b : Bool). q c || (w && b)) (owner-tested k d asked (owner k d asked) c ∙ ap (λ (o : Option ℕ). elim o as (λ o. Bool) [ None ↦ false | Some e ↦ eqb c e ]) (owner-same k d asked))
       ∙ sent-once w (machine.owner k.caches k.ways (seen d asked.set) asked.cache asked.tag) os q c (times-those k.caches (shared k d asked));
+  nobody_else = λ w c l.
+      let os : List ℕ = machine.others k.caches k.ways (seen d asked.set) asked.cache asked.tag in
+      let q : ℕ → Bool = λ i. ltb i k.caches && shared k d asked i in
+      sym (sent-once w (machine.owner k.caches k.ways (seen d asked.set) asked.cache asked.tag) os q c (times-those k.caches (shared k d asked)))
+      ∙ ap (λ (b : Bool). q c || (w && b)) (sym (owner-tested k d asked (owner k d asked) c ∙ ap (λ (o : Option ℕ). elim o as (λ o. Bool) [ None ↦ false | Some e ↦ eqb c e ]) (owner-same k d asked)))
+      ∙ no-one w (ltb c k.caches) (shared k d asked c) (is_owner (owner k d asked) c) (at-least c k.caches l) (beyond-owner k d asked c (owner k d asked) refl l);
 }

@@ -3,4 +3,5 @@ pub mod Formed
 pub mod Fronts
 pub mod Ranges
 pub mod Readings
+pub mod Effects
 pub mod Bridge

@@ -1,5 +1,5 @@
 -- What the engine reads of a request in its directory is what the table machine reads there.
-use Rattle.std.specs.Prelude.{◌≡◌, ℕ, ◌<◌, Bool, eqb, ◌==◌, Some, option_map, unwrap_or}
+use Rattle.std.specs.Prelude.{◌≡◌, ℕ, ◌<◌, ◌≤◌, Bool, false, eqb, ◌==◌, Some, option_map, unwrap_or}
 use Rattle.bk_base.specs.Places.{Shape}
 use Rattle.bk_base.specs.Counting.{is_nil}
 use Rattle.bk_dir.specs.declared.entry.Asked.{Asked}
@@ -29,6 +29,9 @@ pub record ReadsAlike (k : Shape) (d : Contents) (asked : Asked) (r : Summary) :
       → is_invalidated with_owner r c
       ≡ eqb (times c (sent_to with_owner (machine.owner k.caches k.ways (seen d asked.set) asked.cache asked.tag)
       (machine.others k.caches k.ways (seen d asked.set) asked.cache asked.tag))) 1
+  pub nobody_else : (with_owner : Bool) (c : ℕ) → k.caches ≤ c
+      → eqb (times c (sent_to with_owner (machine.owner k.caches k.ways (seen d asked.set) asked.cache asked.tag)
+      (machine.others k.caches k.ways (seen d asked.set) asked.cache asked.tag))) 1 ≡ false
 
 -- THE STATEMENT
 
