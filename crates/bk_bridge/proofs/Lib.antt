@@ -23,6 +23,7 @@ pub mod Ranges
 pub mod Readings
 pub mod Effects
 pub mod Instructions
+pub mod Pops
 pub mod TakenFormed
 pub mod Keeps
 pub mod Law

@@ -1,12 +1,15 @@
 -- What an instruction does to the machine's state, the transaction aside: the messages that it sends and the entries that it writes.
-use Rattle.std.specs.Prelude.{◌≡◌, ℕ, ◌==◌, Bool, true, false, cond, eqb, List, [], ◌∷◌, ◌++◌, Option, Some, None, unwrap_or, option_map, option_and_then, slice_get, if◌then◌else◌}
+use Rattle.std.specs.Prelude.{◌≡◌, ℕ, ◌+◌, ◌==◌, Bool, true, false, cond, eqb, List, [], ◌∷◌, ◌++◌, Option, Some, None, unwrap_or, option_map, option_and_then, slice_get, drop, if◌then◌else◌}
 use Rattle.bk_base.specs.Places.{Shape, InProfile, group_of, tag_at, word_of}
 use Rattle.bk_base.specs.Tables.{put}
 use Rattle.bk_base.specs.declared.coh.Coh.{Coh}
+use Rattle.bk_msg.specs.declared.row.Row.{Row}
+use Rattle.bk_msg.specs.declared.row.Row.TheVariants as rows
 use Rattle.bk_isa.specs.declared.form.Form.{Form}
 use Rattle.bk_isa.specs.declared.form.Form.TheVariants as forms
 use Rattle.bk_engine.specs.declared.parts.Choice.{Choice}
 use Rattle.bk_engine.specs.declared.parts.Core.{Core}
+use Rattle.bk_engine.specs.declared.parts.Head.{Head}
 use Rattle.bk_engine.specs.declared.parts.Held.{Held}
 use Rattle.bk_engine.specs.declared.parts.Kept.{Kept}
 use Rattle.bk_system.specs.declared.event.Event.TheVariants.{Engine}
@@ -21,6 +24,8 @@ use Rattle.bk_machine.specs.Products.{words_of}
 use Rattle.bk_machine.specs.Tables.{put2}
 use Rattle.bk_machine.specs.Transactions.{Transaction}
 use Rattle.bk_machine.specs.World.{World}
+use Rattle.bk_bridge.specs.Formed.{WellFormed}
+use Rattle.bk_bridge.specs.Fronts.{HoldsFront}
 use Rattle.bk_bridge.specs.Ranges.{InRange}
 use Rattle.bk_bridge.specs.Worlds.{world_of}
 
@@ -116,10 +121,54 @@ abbrev pub is_pop : Form → Bool
 is_pop (forms.Popq wp) = true
 is_pop f = false
 
--- THE STATEMENT
+-- POPQ: the head is taken off its channel
+
+-- with `wp` the pending bit of the head's group is set by a request, and cleared by an answer of a cache
+abbrev pub marked : Bool → ℕ → Bool → (ℕ → Bool) → ℕ → Bool
+marked wp s bit pending = if wp then put pending s bit else pending
+
+abbrev pub without_request : ℕ → World → World
+without_request c w = record w { request = put w.request c (drop 1 (w.request c)) }
+
+abbrev pub without_response : ℕ → World → World
+without_response c w = record w { response = put w.response c (drop 1 (w.response c)) }
+
+-- a request is taken
+abbrev pub takes : Bool → ℕ → ℕ → World → World
+takes wp s c w = record (without_request c w) { pending = marked wp s true w.pending; taken = put w.taken s (w.taken s + 1) }
+
+abbrev pub collects : Bool → ℕ → ℕ → World → World
+collects wp s c w = record (without_response c w) { pending = marked wp s false w.pending }
+
+-- and one is settled
+abbrev pub settles : Bool → ℕ → ℕ → World → World
+settles wp s c w = record (collects wp s c w) { settled = put w.settled s (w.settled s + 1) }
+
+-- by the head; no other message is one
+abbrev pub pops_head : Shape → Bool → ℕ → Row → World → World
+pops_head k wp c (rows.Rd _ _ _ addr) w = takes wp (group_of k addr) c w
+pops_head k wp c (rows.Wr _ _ _ addr) w = takes wp (group_of k addr) c w
+pops_head k wp c (rows.UcRd _ _ addr) w = takes wp (group_of k addr) c w
+pops_head k wp c (rows.UcWr _ _ addr _) w = takes wp (group_of k addr) c w
+pops_head k wp c (rows.Evict _ _ _ addr) w = takes wp (group_of k addr) c w
+pops_head k wp c (rows.InvAck _ _ addr) w = collects wp (group_of k addr) c w
+pops_head k wp c (rows.CohAck _ _ addr) w = settles wp (group_of k addr) c w
+pops_head k wp c (rows.Wb _ _ addr _) w = collects wp (group_of k addr) c w
+pops_head k wp c (rows.NullWb _ _ addr) w = collects wp (group_of k addr) c w
+pops_head k wp c (rows.Block _ _ _ _) w = record w { memin = drop 1 w.memin }
+pops_head k wp c m w = w
+
+-- THE STATEMENTS
 
 -- an instruction that runs and takes no head off does what the table says
 abbrev pub InstructionsDo : Type 0
 InstructionsDo = (k : Shape) (program : List Form) (n : State) (x : Option (ℕ × Transaction)) (choice : Choice) (f : Form)
     → InProfile k → InRange k n → slice_get program n.engine.core.place ≡ Some f → is_pop f ≡ false → can_run k program n choice ≡ true
     → world_of k (after k program n (Engine choice)) x ≡ done_by k n.engine.core f (world_of k n x)
+
+-- and a `popq` that runs takes the head off that the engine looks at
+abbrev pub PopsDo : Type 0
+PopsDo = (k : Shape) (program : List Form) (n : State) (x : Option (ℕ × Transaction)) (choice : Choice) (wp : ℕ) (head : Head)
+    → WellFormed k n → HoldsFront k n → slice_get program n.engine.core.place ≡ Some (forms.Popq wp) → n.engine.core.head ≡ Some head
+    → can_run k program n choice ≡ true
+    → world_of k (after k program n (Engine choice)) x ≡ pops_head k (wp == 1) head.choice.source head.message (world_of k n x)

@@ -2,7 +2,7 @@ ghost use Rattle.bk_bridge.specs.Bridge.{OpensEmpty, OpensFormed, EventsAreSteps
 ghost use Rattle.bk_bridge.specs.Fronts.{EventsKeepFront, RunsHoldFront};
 ghost use Rattle.bk_bridge.specs.Ranges.{EventsKeepRange, RunsInRange};
 ghost use Rattle.bk_bridge.specs.Readings.{SummariesAlike};
-ghost use Rattle.bk_bridge.specs.Effects.{InstructionsDo};
+ghost use Rattle.bk_bridge.specs.Effects.{InstructionsDo, PopsDo};
 
 /// Outside the engine the system is the abstract machine. The opening state is the empty machine. Each Issue, Command, Fill and
 /// Memory event of a well-formed state is a step of the machine, or it isn't enabled in both. So a run of such events is the
@@ -36,7 +36,8 @@ pub fn engine_readings()
 {}
 
 /// What an instruction that runs does to the machine's state, the transaction aside: the messages that it sends and the entries that it
-/// writes, by the table of `done_by`, for each instruction but `popq`.
+/// writes (`done_by`); and for `popq` the head that leaves its channel, the pending bit, and what is taken or settled (`pops_head`).
 pub fn engine_effects()
-    ensures { InstructionsDo }
+    ensures instructions { InstructionsDo }
+    ensures pops { PopsDo }
 {}
