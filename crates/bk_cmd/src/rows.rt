@@ -40,7 +40,8 @@ struct Row {
 }
 
 const ROWS: [Row; 12] = [
-    // The last word that there is, and the greatest value, past the caches.
+    // The last word that there is and the greatest value, past the caches. This report alone was put together by hand, from that of the
+    // same two operations elsewhere.
     Row {
         protocol: Protocol::Mesi,
         trace: "config 2 4 2\n0 US 0xfffffffff8 18446744073709551615\n1 UL 0xfffffffff8\n",
