@@ -24,6 +24,7 @@ pub mod Readings
 pub mod Effects
 pub mod Instructions
 pub mod Pops
+pub mod Acting
 pub mod TakenFormed
 pub mod Keeps
 pub mod Law

@@ -4,4 +4,5 @@ pub mod Fronts
 pub mod Ranges
 pub mod Readings
 pub mod Effects
+pub mod Acting
 pub mod Bridge

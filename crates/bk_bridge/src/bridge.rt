@@ -3,6 +3,7 @@ ghost use Rattle.bk_bridge.specs.Fronts.{EventsKeepFront, RunsHoldFront};
 ghost use Rattle.bk_bridge.specs.Ranges.{EventsKeepRange, RunsInRange};
 ghost use Rattle.bk_bridge.specs.Readings.{SummariesAlike};
 ghost use Rattle.bk_bridge.specs.Effects.{InstructionsDo, PopsDo};
+ghost use Rattle.bk_bridge.specs.Acting.{ActionsAlike, HeadsAlike};
 
 /// Outside the engine the system is the abstract machine. The opening state is the empty machine. Each Issue, Command, Fill and
 /// Memory event of a well-formed state is a step of the machine, or it isn't enabled in both. So a run of such events is the
@@ -40,4 +41,12 @@ pub fn engine_readings()
 pub fn engine_effects()
     ensures instructions { InstructionsDo }
     ensures pops { PopsDo }
+{}
+
+/// Which of the machine's actions an instruction is, for the transaction that the engine serves (`action_of`): what it does to the
+/// machine's state is what that action does, permitted or not, once the transaction is the action's. A `popq` takes a request or settles
+/// one with `wp`, and collects an answer without it.
+pub fn engine_actions()
+    ensures actions { ActionsAlike }
+    ensures heads { HeadsAlike }
 {}
