@@ -1,6 +1,7 @@
 -- Each instruction that takes no head off does in the machine what the table says.
 use Rattle.std.proofs.Common.{◌≡◌, ℕ, ◌<◌, Bool, true, false, ltb, eqb, ◌&&◌, refl, sym, ap, subst, ◌∙◌, arith, List, [], ◌∷◌, Option, Some, None, ◌==◌, slice_get, inl, inr}
 use Rattle.std.specs.Prelude.{option_map, option_and_then, if◌then◌else◌}
+use Rattle.std.specs.List.{filter_map}
 use Rattle.std.proofs.lemmas.Nat.{div-mul-add, mod-mul-add}
 use Rattle.std.proofs.lemmas.Bool.{lt-ltb, cases_lt}
 use Rattle.std.proofs.lemmas.Bool.Decides.{nat_tests}
@@ -29,6 +30,7 @@ use Rattle.bk_system.specs.State.{State}
 use Rattle.bk_system.specs.Events.{offered, with_outcome, can_run}
 use Rattle.bk_system.specs.Runs.{state_after_row, after}
 use Rattle.bk_machine.specs.Actions as actions
+use Rattle.bk_machine.specs.Directory as machine
 use Rattle.bk_machine.specs.Entries as entries
 use Rattle.bk_machine.specs.Messages.{ToCache, StWb, StTr, Blk, StWake, UcBlk, UcDone, Done, Read, Write, WriteWord}
 use Rattle.bk_machine.specs.Products.{as_command, as_to_memory, words_of}
@@ -79,7 +81,7 @@ module _ (k : Shape) (n : State) (x : Option (ℕ × Transaction)) where
     owner-same = go sum.owner refl
       where
         at : ℕ → Option (ℕ × ℕ)
-        at c = option_map (λ v. (c, v)) (Rattle.bk_machine.specs.Directory.owner_way k.ways (old.directory group) tag c)
+        at c = option_map (λ v. (c, v)) (machine.owner_way k.ways (old.directory group) tag c)
 
         go : (o : Option (ℕ × ℕ)) → sum.owner ≡ o → effects.owner_place k h old ≡ o
         go None e = ap (option_and_then at) (sym reads.owner ∙ ap (option_map (λ (q : ℕ × ℕ). q.0)) e)
@@ -159,16 +161,16 @@ module _ (k : Shape) (n : State) (x : Option (ℕ × Transaction)) where
 
     invalidation : (r : InRange k n) (with_owner : Bool) → effect k n x (changes.invalidates k directory h with_owner sum) (sending.invs k h with_owner sum)
         ≡ effects.invalidates group tag
-        (actions.sent_to with_owner (Rattle.bk_machine.specs.Directory.owner k.caches k.ways (old.directory group) h.source tag)
-        (Rattle.bk_machine.specs.Directory.others k.caches k.ways (old.directory group) h.source tag)) old
+        (actions.sent_to with_owner (machine.owner k.caches k.ways (old.directory group) h.source tag)
+        (machine.others k.caches k.ways (old.directory group) h.source tag)) old
     invalidation r with_owner =
         effect-is k n x (changes.invalidates k directory h with_owner sum) (sending.invs k h with_owner sum) _ _ _
         (wipes-seen k directory h with_owner sum to r.directory (reads.invalidated with_owner)) refl
-        (invs-sent k h with_owner sum to n.command counted) (ap (Rattle.std.specs.List.filter_map (as_to_memory k)) (invs-no_memout h with_owner sum k.caches n.memout))
+        (invs-sent k h with_owner sum to n.command counted) (ap (filter_map (as_to_memory k)) (invs-no_memout h with_owner sum k.caches n.memout))
       where
         to : List ℕ
-        to = actions.sent_to with_owner (Rattle.bk_machine.specs.Directory.owner k.caches k.ways (old.directory group) h.source tag)
-            (Rattle.bk_machine.specs.Directory.others k.caches k.ways (old.directory group) h.source tag)
+        to = actions.sent_to with_owner (machine.owner k.caches k.ways (old.directory group) h.source tag)
+            (machine.others k.caches k.ways (old.directory group) h.source tag)
 
         counted : (c : ℕ) → (ltb c k.caches && sending.is_invalidated with_owner sum c) ≡ eqb (entries.times c to) 1
         counted c = elim (cases_lt c k.caches) [

@@ -1,4 +1,4 @@
--- Which action of the machine an instruction is, where it is one, for the transaction that the engine serves.
+-- An action of the machine for each instruction, where there is one, for the transaction that the engine serves.
 use Rattle.std.specs.Prelude.{◌≡◌, ℕ, ◌==◌, Bool, true, false, List, ◌∷◌, Option, Some, None, option_map, if◌then◌else◌}
 use Rattle.bk_base.specs.Places.{Shape, group_of, tag_at, word_of}
 use Rattle.bk_base.specs.declared.coh.Coh.{Coh}
@@ -74,7 +74,7 @@ action_of k e h x w f = Some Idles
 
 -- THE STATEMENTS
 
--- What the instruction does to the machine's state is what the action does; the transaction is the action's.
+-- What the instruction does to the machine's state is what the action does, the transaction aside: it is taken over from the action.
 abbrev pub ActionsAlike : Type 0
 ActionsAlike = (k : Shape) (e : Core) (h : Held) (x : Transaction) (w : World) (f : Form) (a : Action)
     → Serves k h x → e.held ≡ Some h → action_of k e h x w f ≡ Some a

@@ -16,6 +16,8 @@ use Rattle.bk_bridge.specs.Worlds.{listed_of}
 abbrev pub seen : Contents → ℕ → ℕ → ℕ → Entry
 seen d s c w = listed_of (d.entries c s w)
 
+-- The engine keeps a way of 0 where there is no own entry, an owner with its way, and the others as bits; the machine keeps a way where
+-- there is one, the owner alone, and the others as a list.
 pub record ReadsAlike (k : Shape) (d : Contents) (asked : Asked) (r : Summary) : Type 0 where
   pub own : r.own ≡ machine.own k.ways (seen d asked.set) asked.cache asked.tag
   pub own_way : r.own_way ≡ unwrap_or (machine.own_way k.ways (seen d asked.set) asked.cache asked.tag) 0
@@ -24,11 +26,12 @@ pub record ReadsAlike (k : Shape) (d : Contents) (asked : Asked) (r : Summary) :
   pub owner_state : r.owner_state ≡ machine.owner_state k.caches k.ways (seen d asked.set) asked.cache asked.tag
   pub no_others : (r.others == 0) ≡ is_nil (machine.others k.caches k.ways (seen d asked.set) asked.cache asked.tag)
   pub victim : r.victim ≡ machine.victim asked.placed (seen d asked.set) asked.cache asked.tag asked.way
-  -- an invalidation is sent to the caches of the machine's list, each of which stands in it once
+  -- an invalidation is sent to the caches that stand in the machine's list once
   pub invalidated : (with_owner : Bool) (c : ℕ) → c < k.caches
       → is_invalidated with_owner r c
       ≡ eqb (times c (sent_to with_owner (machine.owner k.caches k.ways (seen d asked.set) asked.cache asked.tag)
       (machine.others k.caches k.ways (seen d asked.set) asked.cache asked.tag))) 1
+  -- and no other cache stands in it so
   pub nobody_else : (with_owner : Bool) (c : ℕ) → k.caches ≤ c
       → eqb (times c (sent_to with_owner (machine.owner k.caches k.ways (seen d asked.set) asked.cache asked.tag)
       (machine.others k.caches k.ways (seen d asked.set) asked.cache asked.tag))) 1 ≡ false

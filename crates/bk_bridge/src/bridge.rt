@@ -43,9 +43,10 @@ pub fn engine_effects()
     ensures pops { PopsDo }
 {}
 
-/// Which of the machine's actions an instruction is, for the transaction that the engine serves (`action_of`): what it does to the
-/// machine's state is what that action does, permitted or not, once the transaction is the action's. A `popq` takes a request or settles
-/// one with `wp`, and collects an answer without it.
+/// An action of the machine for each instruction, for the transaction that the engine serves (`action_of`): what the instruction does to
+/// the machine's state is what that action does, the transaction aside. Of two actions that differ in the transaction alone, as finishing
+/// one and doing nothing, this doesn't say which it is; nor that the action is permitted. A `popq` takes a request or settles one with
+/// `wp`, and collects an answer without it.
 pub fn engine_actions()
     ensures actions { ActionsAlike }
     ensures heads { HeadsAlike }
