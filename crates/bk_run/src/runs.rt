@@ -163,7 +163,8 @@ pub fn serial<F: Fn(&[WayView]) -> u8 + Copy + Send>(
     }
 }
 
-/// The same as `serial`, with the report of the run's events. Each event is made once.
+/// The same as `serial`, with the report of the run's events. Each event is made once. `SerialFault::Memory` is also answered where
+/// the run has ended and memory runs out in its report.
 pub fn serial_report<F: Fn(&[WayView]) -> u8 + Copy + Send>(
     alloc: Global,
     image: &Image,

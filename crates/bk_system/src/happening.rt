@@ -54,7 +54,8 @@ impl Hardware {
         }
     }
 
-    /// The messages that the last event sent, of those that ran, in order.
+    /// The messages that the last event sent, in order, where `step` answered that it was enabled. After one that wasn't, or that had
+    /// no memory, it says nothing.
     pub fn sent(&self) -> &[Message]
         ensures value { result.now ≡ self.now.sent.items }
         ensures few { length result.now ≤ 16 }

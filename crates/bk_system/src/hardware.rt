@@ -38,8 +38,8 @@ pub struct Hardware {
     pub(crate) completed: Vec<usize>,
     pub(crate) taken: Vec<Group>,
     pub(crate) settled: Vec<Group>,
-    /// What the last event that ran has sent. Contracts don't see it: it is kept here since making and moving a list
-    /// of sixteen messages takes many times as long as an event.
+    /// What the last event has sent, where it ran. It is no part of the state that the hardware stands for: it is kept here since
+    /// making and moving a list of sixteen messages takes many times as long as an event.
     pub(crate) sent: ArrayVec<Message, 16>,
     ghost few_caches: { config.caches ≤ 8 },
     ghost caches_config: { caches.config ≡ config },
