@@ -1,4 +1,5 @@
 pub mod Least
+pub mod Made
 pub mod Mutants
 pub mod Programs
 pub mod Rows

@@ -2,8 +2,9 @@
 use Rattle.std.specs.Prelude.{ℕ, ◌+◌, ◌<◌, ◌≡◌, ◌==◌, zero, suc, Bool, true, false, ◌&&◌, nat_lt, nat_le, length, Option, Some, None, slice_get}
 use Rattle.bk_isa.specs.declared.form.Form.{Form}
 use Rattle.bk_isa.specs.declared.form.Form.TheVariants.{Wfq}
+use Rattle.bk_isa.specs.Words.{IsInRange}
 use Rattle.bk_know.specs.declared.sets.Sets.{Sets}
-use Rattle.bk_know.specs.Sets.{within}
+use Rattle.bk_know.specs.Sets.{within, any_empty}
 use Rattle.bk_image.specs.Images.{Parts, known}
 use Rattle.bk_flow.specs.Flow.{start, fall, jump, target}
 use Rattle.bk_check.specs.Obligations.{implies, or_later, unmet_here}
@@ -91,6 +92,12 @@ unmet_at image p = unmet_of image p (slice_get image.instrs p) (sets_at image p)
 -- an image is accepted: each obligation is met at each instruction
 abbrev pub Accepted : Parts → Type 0
 Accepted image = (p : ℕ) → p < length image.instrs → unmet_at image p ≡ None
+
+-- what each image has: an instruction at least, operands that are all in range, and know lines that leave each field a value
+pub record IsMade (image : Parts) : Type 0 where
+  pub some : 0 < length image.instrs
+  pub forms : (p : ℕ) (f : Form) → slice_get image.instrs p ≡ Some f → IsInRange f
+  pub knows : (p : ℕ) (s : Sets) → known image.knows p ≡ Some s → any_empty s ≡ false
 
 -- the least instruction at which one is not met, with the least one there
 pub record IsFirstUnmet (image : Parts) (at obligation : ℕ) : Type 0 where

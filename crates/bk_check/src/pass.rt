@@ -1,9 +1,10 @@
 //! The pass over an image: the mask at each place, the obligations on places, and the first refusal.
 
-ghost use Rattle.std.specs.Prelude.{◌≡◌, ◌<◌, ◌≤◌, ◌^◌, ◌+◌, ◌-◌, ◌↔◌, ℕ, length, IsOk, IfErr, slice_get};
+ghost use Rattle.std.specs.Prelude.{◌≡◌, ◌<◌, ◌≤◌, ◌^◌, ◌+◌, ◌-◌, ◌↔◌, ℕ, length, false, IsOk, IfErr, IfSome, OnOk, slice_get};
 ghost use Rattle.bk_know.specs.declared.sets.Sets.{Sets};
+ghost use Rattle.bk_know.specs.Sets.{any_empty};
 ghost use Rattle.bk_image.specs.Images.{known};
-ghost use Rattle.bk_check.specs.Accepted.{or_else, fits_line, is_some_sets, is_wait, obligation_1, obligation_2_target, obligation_2, obligation_3_target, obligation_3, obligation_4_target, obligation_4, unmet, Accepted, IsFirstUnmet};
+ghost use Rattle.bk_check.specs.Accepted.{or_else, fits_line, is_some_sets, is_wait, obligation_1, obligation_2_target, obligation_2, obligation_3_target, obligation_3, obligation_4_target, obligation_4, unmet, Accepted, IsMade, IsFirstUnmet};
 
 use crate::obligations::{or_later, unmet_here};
 use crate::waiting::implies;
@@ -27,7 +28,8 @@ const HAS_MASK: u8 = 1;
 
 /// The sets of the know line at a place.
 fn known(image: &Image, place: u32) -> Option<Sets>
-    ensures { result ≡ known image.now.knows place }
+    ensures value { result ≡ known image.now.knows place }
+    ensures some { IfSome result (λ sets. any_empty sets ≡ false) }
 {
     match image.know_at(place) {
         None => None,
@@ -158,7 +160,11 @@ pub fn check(image: &Image) -> Result<(), Refusal>
     ensures ok { IsOk result ↔ Accepted image.now }
     // A refusal names the first instruction, and the least obligation there.
     ensures refused { IfErr result (λ r. IsFirstUnmet image.now r.at r.obligation) }
+    // An accepted image has what its type asks for: operands in range, and no know line with an empty field.
+    ensures made { OnOk result (IsMade image.now) }
 {
+    // Its know lines stand at places of instructions.
+    let _lines = image.knows();
     let instrs = image.instrs();
     let mut fallen: Option<Sets> = None;
     for (index, instr) in instrs.iter().enumerate() {

@@ -1,5 +1,5 @@
 -- What an instruction leaves of the sets at its place, and the edges to the next place and to its target.
-use Rattle.std.specs.Prelude.{ℕ, ◌+◌, ◌-◌, ◌==◌, Bool, true, false, ◌&&◌, ◌||◌, not, bit_and, bit_or, if◌then◌else◌, Option, Some, None}
+use Rattle.std.specs.Prelude.{ℕ, ◌-◌, nat_lt, ◌==◌, Bool, true, false, ◌&&◌, ◌||◌, not, bit_and, bit_or, if◌then◌else◌, Option, Some, None}
 use Rattle.bk_base.specs.declared.coh.Coh.{Coh}
 use Rattle.bk_base.specs.declared.coh.Coh.TheVariants.{I, S, E, F, M, O}
 use Rattle.bk_isa.specs.declared.form.Form.{Form}
@@ -58,40 +58,49 @@ is_shared _ = false
 abbrev pub flag : Sets → ℕ → ℕ
 flag s a = if a == 0 then s.f0 else if a == 1 then s.f1 else if a == 2 then s.f2 else s.f3
 
+-- other values for a flag
 abbrev pub with_flag : Sets → ℕ → ℕ → Sets
-with_flag s a v =
-    if a == 0 then record s { f0 = v }
-    else if a == 1 then record s { f1 = v }
-    else if a == 2 then record s { f2 = v }
-    else record s { f3 = v }
+with_flag s a v = record s {
+  f0 = if a == 0 then v else s.f0;
+  f1 = if a == 1 then v else s.f1;
+  f2 = if a == 2 then v else s.f2;
+  f3 = if nat_lt a 3 then s.f3 else v;
+}
 
 -- the results that `not`, `and` and `or` may have, of flags that may have these values
 abbrev pub set_not : ℕ → ℕ
-set_not a = when (may a FLAG_1) FLAG_0 + when (may a FLAG_0) FLAG_1
+set_not a = bit_or (when (may a FLAG_1) FLAG_0) (when (may a FLAG_0) FLAG_1)
 
 abbrev pub set_and : ℕ → ℕ → ℕ
-set_and a b = when (may a FLAG_0 || may b FLAG_0) FLAG_0 + when (may a FLAG_1 && may b FLAG_1) FLAG_1
+set_and a b = bit_or (when (may a FLAG_0 || may b FLAG_0) FLAG_0) (when (may a FLAG_1 && may b FLAG_1) FLAG_1)
 
 abbrev pub set_or : ℕ → ℕ → ℕ
-set_or a b = when (may a FLAG_0 && may b FLAG_0) FLAG_0 + when (may a FLAG_1 || may b FLAG_1) FLAG_1
+set_or a b = bit_or (when (may a FLAG_0 && may b FLAG_0) FLAG_0) (when (may a FLAG_1 || may b FLAG_1) FLAG_1)
 
 -- ---- masks
 
+-- the number of a field that `bk` tests, other than f3
+abbrev pub is_before_f3 : ℕ → Bool
+is_before_f3 k =
+    (k == FIELD_HEAD) || (k == FIELD_GP) || (k == FIELD_KIND) || (k == FIELD_OWN) || (k == FIELD_OWNER) || (k == FIELD_OTHERS)
+    || (k == FIELD_VICTIM) || (k == FIELD_ACKS) || (k == FIELD_F0) || (k == FIELD_F1) || (k == FIELD_F2)
+
 -- another set for the field of a number, of those that `bk` tests
 abbrev pub with_field : Sets → ℕ → ℕ → Sets
-with_field s k v =
-    if k == FIELD_HEAD then record s { head = v }
-    else if k == FIELD_GP then record s { gp = v }
-    else if k == FIELD_KIND then record s { kind = v }
-    else if k == FIELD_OWN then record s { own = v }
-    else if k == FIELD_OWNER then record s { owner = v }
-    else if k == FIELD_OTHERS then record s { others = v }
-    else if k == FIELD_VICTIM then record s { victim = v }
-    else if k == FIELD_ACKS then record s { acks = v }
-    else if k == FIELD_F0 then record s { f0 = v }
-    else if k == FIELD_F1 then record s { f1 = v }
-    else if k == FIELD_F2 then record s { f2 = v }
-    else record s { f3 = v }
+with_field s k v = record s {
+  head = if k == FIELD_HEAD then v else s.head;
+  gp = if k == FIELD_GP then v else s.gp;
+  kind = if k == FIELD_KIND then v else s.kind;
+  own = if k == FIELD_OWN then v else s.own;
+  owner = if k == FIELD_OWNER then v else s.owner;
+  others = if k == FIELD_OTHERS then v else s.others;
+  victim = if k == FIELD_VICTIM then v else s.victim;
+  acks = if k == FIELD_ACKS then v else s.acks;
+  f0 = if k == FIELD_F0 then v else s.f0;
+  f1 = if k == FIELD_F1 then v else s.f1;
+  f2 = if k == FIELD_F2 then v else s.f2;
+  f3 = if is_before_f3 k then s.f3 else v;
+}
 
 -- no request is held: the idle mask, with the flags of s
 abbrev pub idle_with : Sets → Sets
@@ -168,11 +177,10 @@ start = idle_with (record nothing { f0 = FLAG_0; f1 = FLAG_0; f2 = FLAG_0; f3 = 
 -- Wb or NullWb where a write-back may have been asked for; from memory comes a block, where one may have been asked for
 abbrev pub heads : ℕ → Sets → ℕ
 heads a s =
-    when (may a CLASS_REQ) HEAD_REQUEST
-    + when (may a CLASS_RESP) HEAD_COH_ACK
-    + when (may a CLASS_RESP && may s.acks ACKS_SOME) HEAD_INV_ACK
-    + when (may a CLASS_RESP && may s.wb WB_ASKED) HEAD_WB_NULL_WB
-    + when (may a CLASS_MEM && may s.mem MEM_ASKED) HEAD_BLOCK
+    let all = bit_or (when (may a CLASS_REQ) HEAD_REQUEST) (when (may a CLASS_RESP) HEAD_COH_ACK) in
+    let all = bit_or all (when (may a CLASS_RESP && may s.acks ACKS_SOME) HEAD_INV_ACK) in
+    let all = bit_or all (when (may a CLASS_RESP && may s.wb WB_ASKED) HEAD_WB_NULL_WB) in
+    bit_or all (when (may a CLASS_MEM && may s.mem MEM_ASKED) HEAD_BLOCK)
 
 -- `wfq`: a head of one of the classes; the group of a request may be free or pending
 abbrev pub wait : ℕ → Sets → Sets
@@ -183,7 +191,7 @@ empty_head s = record s { head = HEAD_NONE; gp = GP_FREE }
 
 -- a settled group wakes an engine that is blocked
 abbrev pub awake : ℕ → ℕ
-awake stage = if may stage STAGE_BLOCKED then bit_or (bit_and stage STAGE_IDLE_HELD_CLOSING) STAGE_IDLE else stage
+awake stage = bit_or (bit_and stage STAGE_IDLE_HELD_CLOSING) (when (may stage STAGE_BLOCKED) STAGE_IDLE)
 
 -- s, and t too where the test holds
 abbrev pub add : Bool → Sets → Sets → Sets

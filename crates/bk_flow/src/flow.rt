@@ -26,10 +26,10 @@ fn heads(classes: u8, sets: Sets) -> u8
 {
     let response = may(classes, CLASS_RESP);
     when(may(classes, CLASS_REQ), HEAD_REQUEST)
-        + when(response, HEAD_COH_ACK)
-        + when(response && may(sets.acks, ACKS_SOME), HEAD_INV_ACK)
-        + when(response && may(sets.wb, WB_ASKED), HEAD_WB_NULL_WB)
-        + when(
+        | when(response, HEAD_COH_ACK)
+        | when(response && may(sets.acks, ACKS_SOME), HEAD_INV_ACK)
+        | when(response && may(sets.wb, WB_ASKED), HEAD_WB_NULL_WB)
+        | when(
             may(classes, CLASS_MEM) && may(sets.mem, MEM_ASKED),
             HEAD_BLOCK,
         )
@@ -65,11 +65,7 @@ fn empty_head(sets: Sets) -> Sets
 fn awake(stage: u8) -> u8
     ensures { result ≡ awake stage }
 {
-    if may(stage, STAGE_BLOCKED) {
-        (stage & STAGE_IDLE_HELD_CLOSING) | STAGE_IDLE
-    } else {
-        stage
-    }
+    (stage & STAGE_IDLE_HELD_CLOSING) | when(may(stage, STAGE_BLOCKED), STAGE_IDLE)
 }
 
 /// The first mask, and where the test holds what the second allows too.

@@ -1,7 +1,7 @@
 //! Sets of values of one field, and masks of a set for each field.
 
-ghost use Rattle.std.specs.Prelude.{◌≡◌};
-ghost use Rattle.bk_flow.specs.Flow.{may, lacks, when, only_state, only_debt, only_down, is_shared, flag, with_flag, set_not, set_and, set_or, with_field, idle_with, held_with, nothing, start};
+ghost use Rattle.std.specs.Prelude.{◌≡◌, if◌then◌else◌};
+ghost use Rattle.bk_flow.specs.Flow.{may, lacks, when, only_state, only_debt, only_down, is_shared, flag, with_flag, set_not, set_and, set_or, is_before_f3, with_field, idle_with, held_with, nothing, start};
 
 use crate::values::{
     ACKS_ZERO, DOWN_F, DOWN_I, DOWN_O, DOWN_PAID, DOWN_S, DREQ_E, DREQ_F, DREQ_M, DREQ_O,
@@ -33,6 +33,13 @@ pub fn when(test: bool, values: u8) -> u8
     ensures { result ≡ when test values }
 {
     if test { values } else { 0 }
+}
+
+/// The first values where the test holds, else the second.
+fn either(test: bool, values: u8, others: u8) -> u8
+    ensures { result ≡ if test then values else others }
+{
+    if test { values } else { others }
 }
 
 /// A state alone, in the field `own`.
@@ -101,11 +108,12 @@ pub fn flag(sets: Sets, a: u8) -> u8
 pub fn with_flag(sets: Sets, a: u8, values: u8) -> Sets
     ensures { result ≡ with_flag sets a values }
 {
-    match a {
-        0 => Sets { f0: values, ..sets },
-        1 => Sets { f1: values, ..sets },
-        2 => Sets { f2: values, ..sets },
-        _ => Sets { f3: values, ..sets },
+    Sets {
+        f0: either(a == 0, values, sets.f0),
+        f1: either(a == 1, values, sets.f1),
+        f2: either(a == 2, values, sets.f2),
+        f3: either(a < 3, sets.f3, values),
+        ..sets
     }
 }
 
@@ -113,61 +121,58 @@ pub fn with_flag(sets: Sets, a: u8, values: u8) -> Sets
 pub fn set_not(a: u8) -> u8
     ensures { result ≡ set_not a }
 {
-    when(may(a, FLAG_1), FLAG_0) + when(may(a, FLAG_0), FLAG_1)
+    when(may(a, FLAG_1), FLAG_0) | when(may(a, FLAG_0), FLAG_1)
 }
 
 /// The values of the conjunction of two flags.
 pub fn set_and(a: u8, b: u8) -> u8
     ensures { result ≡ set_and a b }
 {
-    when(may(a, FLAG_0) || may(b, FLAG_0), FLAG_0) + when(may(a, FLAG_1) && may(b, FLAG_1), FLAG_1)
+    when(may(a, FLAG_0) || may(b, FLAG_0), FLAG_0) | when(may(a, FLAG_1) && may(b, FLAG_1), FLAG_1)
 }
 
 /// The values of the disjunction of two flags.
 pub fn set_or(a: u8, b: u8) -> u8
     ensures { result ≡ set_or a b }
 {
-    when(may(a, FLAG_0) && may(b, FLAG_0), FLAG_0) + when(may(a, FLAG_1) || may(b, FLAG_1), FLAG_1)
+    when(may(a, FLAG_0) && may(b, FLAG_0), FLAG_0) | when(may(a, FLAG_1) || may(b, FLAG_1), FLAG_1)
+}
+
+/// Whether the number is that of a field that `bk` tests, other than f3.
+fn is_before_f3(number: u8) -> bool
+    ensures { result ≡ is_before_f3 number }
+{
+    number == FIELD_HEAD
+        || number == FIELD_GP
+        || number == FIELD_KIND
+        || number == FIELD_OWN
+        || number == FIELD_OWNER
+        || number == FIELD_OTHERS
+        || number == FIELD_VICTIM
+        || number == FIELD_ACKS
+        || number == FIELD_F0
+        || number == FIELD_F1
+        || number == FIELD_F2
 }
 
 /// The mask with other values for the field of a number, of those that `bk` tests.
 pub fn with_field(sets: Sets, number: u8, values: u8) -> Sets
     ensures { result ≡ with_field sets number values }
 {
-    match number {
-        FIELD_HEAD => Sets {
-            head: values,
-            ..sets
-        },
-        FIELD_GP => Sets { gp: values, ..sets },
-        FIELD_KIND => Sets {
-            kind: values,
-            ..sets
-        },
-        FIELD_OWN => Sets {
-            own: values,
-            ..sets
-        },
-        FIELD_OWNER => Sets {
-            owner: values,
-            ..sets
-        },
-        FIELD_OTHERS => Sets {
-            others: values,
-            ..sets
-        },
-        FIELD_VICTIM => Sets {
-            victim: values,
-            ..sets
-        },
-        FIELD_ACKS => Sets {
-            acks: values,
-            ..sets
-        },
-        FIELD_F0 => Sets { f0: values, ..sets },
-        FIELD_F1 => Sets { f1: values, ..sets },
-        FIELD_F2 => Sets { f2: values, ..sets },
-        _ => Sets { f3: values, ..sets },
+    Sets {
+        head: either(number == FIELD_HEAD, values, sets.head),
+        gp: either(number == FIELD_GP, values, sets.gp),
+        kind: either(number == FIELD_KIND, values, sets.kind),
+        own: either(number == FIELD_OWN, values, sets.own),
+        owner: either(number == FIELD_OWNER, values, sets.owner),
+        others: either(number == FIELD_OTHERS, values, sets.others),
+        victim: either(number == FIELD_VICTIM, values, sets.victim),
+        acks: either(number == FIELD_ACKS, values, sets.acks),
+        f0: either(number == FIELD_F0, values, sets.f0),
+        f1: either(number == FIELD_F1, values, sets.f1),
+        f2: either(number == FIELD_F2, values, sets.f2),
+        f3: either(is_before_f3(number), sets.f3, values),
+        ..sets
     }
 }
 
