@@ -1,0 +1,10 @@
+pub mod Subsets
+pub mod Filled
+pub mod Belows
+pub mod Meets
+pub mod Tests
+pub mod Obliged
+pub mod Flows
+pub mod Fitting
+pub mod Places
+pub mod Leading
