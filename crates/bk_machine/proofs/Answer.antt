@@ -1,5 +1,5 @@
 -- The engine answers an uncached access or an eviction, pays its debts and finishes.
-use Rattle.std.proofs.Common.{◌≡◌, ℕ, Bool, true, false, cond, not, eqb, ◌&&◌, ◌||◌, refl, arith, [], ◌∷◌, ◌++◌, sym, ◌∙◌, subst, ap}
+use Rattle.std.proofs.Common.{◌≡◌, ℕ, Bool, true, false, cond, not, eqb, ◌&&◌, ◌||◌, refl, arith, [], ◌∷◌, ◌++◌, sym, ◌∙◌, subst, ap, true≢false}
 use Rattle.std.specs.Prelude.{Option, Some, None}
 use Rattle.std.proofs.lemmas.Bool.Decides.{nat_tests}
 use mathlib.Core.Path.{fun_ext}
@@ -8,11 +8,11 @@ use Rattle.bk_machine.specs.Tables.{put2}
 use Rattle.bk_machine.specs.Entries.{Entry}
 use Rattle.bk_machine.specs.Messages.{UcLoad, UcStore, Evict, ToCache, UcBlk, UcDone, Done, request_of}
 use Rattle.bk_machine.specs.Transactions.{InProgress, WriteBack, Idle, Reading, Got, Debt, Transaction, open_transaction, granted_transaction, is_asked, pay, paid}
-use Rattle.bk_machine.specs.Phases.{Flush, NoFlush, Ack, Flight, ByWord, ByDone, Phase, Free, Open, Flying, Settling, at_cache, flight_command, flight_fill, flight_effect}
+use Rattle.bk_machine.specs.Phases.{NoFlush, Ack, Flight, ByWord, ByDone, Phase, Free, Open, Flying, Settling, at_cache, flight_command, flight_fill, flight_effect}
 use Rattle.bk_machine.specs.World.{Group}
 use Rattle.bk_machine.specs.Words.{latest, effective}
-use Rattle.bk_machine.specs.Invariant.{flight_kind, Good, Copies, Matches, FlightAims, FlightValues, flight_away, transaction_away, kept_away, request_at, is_reading, GrantedTransaction, DebtsApart, TransactionAt, is_free}
-use Rattle.bk_machine.proofs.Settle.{channels-none, OpenValues-granted}
+use Rattle.bk_machine.specs.Invariant.{flight_kind, Good, Copies, Matches, FlightAims, FlightValues, flight_away, transaction_away, kept_away, request_at, GrantedTransaction, NoneOrGranted, DebtsApart, TransactionAt}
+use Rattle.bk_machine.proofs.Settle.{channels-none, OpenValues-granted, at_granted, granted-unread}
 use Rattle.bk_machine.proofs.Engine.{not_at}
 use Rattle.bk_machine.proofs.Grant.{quiet-matches, quiet-commands, quiet-responses}
 use Rattle.bk_machine.proofs.FlushComes.{light-writable}
@@ -43,7 +43,7 @@ module _ (g : Group) (r : ℕ) (b : InProgress) (rd : Reading) (wr : Bool) (inv 
     requests = good.requests;
     taker = good.taker;
     placed = good.placed;
-    transaction = (refl, tt, refl);
+    transaction = record { granted = refl; no_flush = refl; no_acks = refl; not_asked = not_asked; debts_apart = tt };
     pending = good.pending;
     taken = good.taken;
     copies = record {
@@ -93,31 +93,21 @@ evicted_good g r w t rd wr inv good e =
 
 -- debts
 
-not_open : (p : Phase) (x : Transaction) → x.granted ≡ true → TransactionAt p (Some x) → GrantedTransaction (Some x)
-not_open Free x e q = q
-not_open (Open r b fl inv) x e q = absurd (cc (e, q.ungranted))
-not_open (Flying r b f) x e q = q
-not_open (Settling r t) x e q = q
-
-granted-at : (p : Phase) (transaction ty : Option Transaction) → GrantedTransaction transaction → TransactionAt p transaction → GrantedTransaction ty
-    → (is_free p ≡ is_free p) → ((r : ℕ) (b : InProgress) (fl : Flush) (inv : ℕ → Ack) → p ≡ Open r b fl inv → ⊥) → TransactionAt p ty
-granted-at Free transaction ty g q h e n = h
-granted-at (Open r b fl inv) transaction ty g q h e n = absurd (n r b fl inv refl)
-granted-at (Flying r b f) transaction ty g q h e n = h
-granted-at (Settling r t) transaction ty g q h e n = h
-
-pub phase-closed : (p : Phase) (x : Transaction) → x.granted ≡ true → TransactionAt p (Some x) → (r : ℕ) (b : InProgress) (fl : Flush) (inv : ℕ → Ack)
-    → p ≡ Open r b fl inv → ⊥
-phase-closed Free x e q r b fl inv s = absurd (cc s)
-phase-closed (Open r' b' fl' inv') x e q r b fl inv s = absurd (cc (e, q.ungranted))
-phase-closed (Flying r' b' f) x e q r b fl inv s = absurd (cc s)
-phase-closed (Settling r' t) x e q r b fl inv s = absurd (cc s)
+-- the phase of a granted transaction stands where another granted one, or none, takes its place
+granted-at : (p : Phase) (x : Transaction) (y : Option Transaction) → x.granted ≡ true → TransactionAt p (Some x) → NoneOrGranted y → TransactionAt p y
+granted-at Free x y e q h = h
+granted-at (Open r b fl inv) x y e q h = absurd (true≢false (sym e ∙ q.ungranted))
+granted-at (Flying r b f) x y e q h = h
+granted-at (Settling r t) x y e q h = h
 
 -- the record changes but for what the copies and the values see of it
-module _ (p : Phase) (g : Group) (x : Transaction) (ty : Option Transaction) (directory : ℕ → ℕ → Entry) (good : Good p (record g { transaction = Some x })) (granted : x.granted ≡ true) (then : GrantedTransaction ty)
+module _ (p : Phase) (g : Group) (x : Transaction) (ty : Option Transaction) (directory : ℕ → ℕ → Entry) (good : Good p (record g { transaction = Some x })) (granted : x.granted ≡ true) (then : NoneOrGranted ty)
     (same : paid (Some x) g.directory ≡ paid ty directory) where
+  was_granted : GrantedTransaction x
+  was_granted = at_granted p x good.transaction granted
+
   was_away : (u k : ℕ) → transaction_away (Some x) u k ≡ false
-  was_away u k = lem x.write_back x.granted (not_open p x granted good.transaction).2 granted
+  was_away u k = lem x.write_back x.granted was_granted.no_flush granted
     where
       lem : (wb : WriteBack) (y : Bool) → wb ≡ Idle → y ≡ true → (kept_away wb u || (x.written && not y && request_at x.request u k)) ≡ false
       lem wb y e f = grind arith
@@ -130,7 +120,7 @@ module _ (p : Phase) (g : Group) (x : Transaction) (ty : Option Transaction) (di
     requests = good.requests;
     taker = good.taker;
     placed = good.placed;
-    transaction = granted-at p (Some x) ty (not_open p x granted good.transaction) good.transaction then refl (phase-closed p x granted good.transaction);
+    transaction = granted-at p x ty granted good.transaction then;
     pending = good.pending;
     taken = good.taken;
     copies = subst (λ (d : ℕ → ℕ → Entry). Copies p d g.held) same good.copies;
@@ -140,14 +130,10 @@ module _ (p : Phase) (g : Group) (x : Transaction) (ty : Option Transaction) (di
       flying = good.values.flying;
       held = OpenValues-granted ty _ _ _ then;
     };
-    channels = channels-none (Some x) ty _ _ _ _ _ (not_reading (Some x) (not_open p x granted good.transaction)) (not_reading ty then) good.channels;
+    channels = channels-none (Some x) ty _ _ _ _ _ (granted-unread (Some x) was_granted) (granted-unread ty then) good.channels;
     kind = good.kind;
     answers = good.answers;
   }
-    where
-      not_reading : (transaction : Option Transaction) → GrantedTransaction transaction → is_reading transaction ≡ false
-      not_reading None e = refl
-      not_reading (Some x) e = rw e.0 refl
 
 pay-put : (g : Group) (d : Debt) (od : Option Debt) → DebtsApart (Some d) od
     → pay (Some d) (pay od g.directory) ≡ pay None (pay od (put2 g.directory d.cache d.way d.held))
@@ -171,19 +157,21 @@ module _ (p : Phase) (g : Group) (x : Transaction) (good : Good p g) (is : g.tra
   known : Good p (record g { transaction = Some x })
   known = subst (λ (h : Group). Good p h) (ap (λ (y : Option Transaction). record g { transaction = y }) is) good
 
-  is_granted : GrantedTransaction (Some x)
-  is_granted = not_open p x granted known.transaction
+  is_granted : GrantedTransaction x
+  is_granted = at_granted p x known.transaction granted
 
   -- the requester's debt is paid
   pub own_paid : (d : Debt) → x.requester_debt ≡ Some d
       → Good p (record g { directory = put2 g.directory d.cache d.way d.held; transaction = Some (record x { requester_debt = None }) })
-  own_paid d e = closes_good p g x (Some (record x { requester_debt = None })) (put2 g.directory d.cache d.way d.held) known granted (granted, tt, is_granted.2)
-      (ap (λ (o : Option Debt). pay o (pay x.owner_debt g.directory)) e ∙ pay-put g d x.owner_debt (subst (λ (o : Option Debt). DebtsApart o x.owner_debt) e is_granted.1))
+  own_paid d e = closes_good p g x (Some (record x { requester_debt = None })) (put2 g.directory d.cache d.way d.held) known granted
+      (record { granted = granted; no_flush = is_granted.no_flush; no_acks = is_granted.no_acks; not_asked = is_granted.not_asked; debts_apart = tt })
+      (ap (λ (o : Option Debt). pay o (pay x.owner_debt g.directory)) e ∙ pay-put g d x.owner_debt (subst (λ (o : Option Debt). DebtsApart o x.owner_debt) e is_granted.debts_apart))
 
   -- the owner's debt is paid
   pub owner_paid : (d : Debt) → x.owner_debt ≡ Some d
       → Good p (record g { directory = put2 g.directory d.cache d.way d.held; transaction = Some (record x { owner_debt = None }) })
-  owner_paid d e = closes_good p g x (Some (record x { owner_debt = None })) (put2 g.directory d.cache d.way d.held) known granted (granted, no-debt x.requester_debt, is_granted.2)
+  owner_paid d e = closes_good p g x (Some (record x { owner_debt = None })) (put2 g.directory d.cache d.way d.held) known granted
+      (record { granted = granted; no_flush = is_granted.no_flush; no_acks = is_granted.no_acks; not_asked = is_granted.not_asked; debts_apart = no-debt x.requester_debt })
       (ap (λ (o : Option Debt). pay x.requester_debt (pay o g.directory)) e ∙ ap (pay x.requester_debt) (pay-put_owner g d))
 
   -- both debts are paid, and the transaction ends

@@ -1,76 +1,198 @@
--- The example run is listed, and its answers are computed.
-use Rattle.std.proofs.Common.{◌≡◌, refl, arith, List, [], ◌∷◌, ◌++◌, inl}
+-- The two example runs are listed, and their answers are computed.
+use Rattle.std.proofs.Common.{◌≡◌, ℕ, true, false, refl, arith, List, [], ◌∷◌, ◌++◌, drop, take, inl, inr}
+use Rattle.std.specs.Prelude.{Some}
 use Rattle.bk_base.specs.Places.{Shape}
 use Rattle.bk_base.specs.Tables.{put}
 use Rattle.bk_machine.specs.Tables.{put2}
 use Rattle.bk_machine.specs.Entries.{wipe}
+use Rattle.bk_machine.specs.Transactions.{Transaction, Idle}
 use Rattle.bk_machine.specs.World.{World, empty}
+use Rattle.bk_machine.specs.Actions.{Ungranted, Ready, Granted}
 use Rattle.bk_machine.specs.Runs.{Event, Listed, happens, run}
-use Rattle.bk_machine.specs.Example.{shape, events, answers, loads, silent_store, transfers, writes_back, uncached_store, evicts, uncached_load}
+use Rattle.bk_machine.specs.Example as first
+use Rattle.bk_machine.specs.SecondExample as second
 
-pub all_answers : (run shape events (empty 1)).history ≡ answers
-unfolding put put2 wipe
-all_answers = refl
+-- what many conditions begin with
+is-open : {s : ℕ} {x : Transaction} {w : World} → w.transaction ≡ Some (s, x) → x.granted ≡ false → Ungranted s x w
+is-open a b = record { is = a; ungranted = b }
+
+is-ready : {s : ℕ} {x : Transaction} {w : World} → w.transaction ≡ Some (s, x) → x.granted ≡ false → x.write_back ≡ Idle → x.waiting ≡ [] → Ready s x w
+is-ready a b c d = record { ungranted = is-open a b; idle = c; acked = d }
+
+is-granted : {s : ℕ} {x : Transaction} {w : World} → w.transaction ≡ Some (s, x) → x.granted ≡ true → Granted s x w
+is-granted a b = record { is = a; granted = b }
+
+-- what stands in a piece behind its first n events is listed there
+abbrev ListedFrom : ℕ → Shape → List Event → World → Type 0
+ListedFrom n k es w = Listed k (drop n es) (run k (take n es) w)
+
+-- pieces one after the other, and that each is listed from the state that the ones before it leave
+abbrev joined : List (List Event) → List Event
+joined [] = []
+joined (x ∷ xs) = x ++ joined xs
+
+abbrev EachListed : Shape → List (List Event) → World → Type 0
+EachListed k [] w = Unit {0}
+EachListed k (x ∷ xs) w = Listed k x w × EachListed k xs (run k x w)
 
 listed-append : (k : Shape) (xs ys : List Event) (w : World) → Listed k xs w → Listed k ys (run k xs w) → Listed k (xs ++ ys) w
 listed-append k [] ys w a b = b
 listed-append k (x ∷ xs) ys w a b = (a.0, listed-append k xs ys (happens k w x) a.1 b)
 
-loads-listed : Listed shape loads (empty 1)
+listed-joined : (k : Shape) (xs : List (List Event)) (w : World) → EachListed k xs w → Listed k (joined xs) w
+listed-joined k [] w l = tt
+listed-joined k (x ∷ xs) w l = listed-append k x (joined xs) w l.0 (listed-joined k xs (run k x w) l.1)
+
+-- THE FIRST RUN: the states between its pieces, that each piece is listed, and the answers
+
+abbrev w1 : World
+w1 = run first.shape first.loads (empty 1)
+
+abbrev w2 : World
+w2 = run first.shape first.silent_store w1
+
+abbrev w3 : World
+w3 = run first.shape first.transfers w2
+
+abbrev w4 : World
+w4 = run first.shape first.writes_back w3
+
+abbrev w5 : World
+w5 = run first.shape first.uncached_store w4
+
+abbrev w6 : World
+w6 = run first.shape first.evicts w5
+
+loads : Listed first.shape first.loads (empty 1)
 unfolding put put2 wipe
-loads-listed =
-    (tt, ((refl, refl, refl), ((record { is = refl; ungranted = refl }, refl, refl, refl, inl refl, refl), (tt, ((record { is = refl; ungranted = refl }, refl, refl), ((record { ungranted = record { is = refl; ungranted = refl }; idle = refl; acked = refl }, refl, refl, refl, (refl, refl)), (tt, ((refl, refl), ((record { is = refl; granted = refl }, refl, refl), ((tt, refl), tt))))))))))
+loads = (tt, ((refl, refl, refl), ((is-open refl refl, refl, refl, refl, inl refl, refl), (tt, ((is-open refl refl, refl, refl), granted)))))
+  where
+    granted : ListedFrom 5 first.shape first.loads (empty 1)
+    granted = ((is-ready refl refl refl refl, refl, refl, refl, (refl, refl)), (tt, ((refl, refl), ((is-granted refl refl, refl, refl), ((tt, refl), tt)))))
 
-silent_store-listed : Listed shape silent_store (run shape loads (empty 1))
+transfers : Listed first.shape first.transfers w2
 unfolding put put2 wipe
-silent_store-listed = (tt, tt)
+transfers =
+    (tt, ((refl, refl, refl), ((is-ready refl refl refl refl, refl, refl, record { is_owner = refl; is_way = refl }, refl, refl, λ e. absurd (cc e)), (tt, (tt, paid)))))
+  where
+    paid : ListedFrom 5 first.shape first.transfers w2
+    paid = ((refl, refl), ((refl, refl), ((is-granted refl refl, refl, refl), ((tt, refl), tt))))
 
-transfers-listed : Listed shape transfers (run shape silent_store (run shape loads (empty 1)))
+writes_back : Listed first.shape first.writes_back w3
 unfolding put put2 wipe
-transfers-listed =
-    (tt, ((refl, refl, refl), ((record { ungranted = record { is = refl; ungranted = refl }; idle = refl; acked = refl }, refl, refl, record { is_owner = refl; is_way = refl }, refl, refl, λ e. absurd (cc e)), (tt, (tt, ((refl, refl), ((refl, refl), ((record { is = refl; granted = refl }, refl, refl), ((tt, refl), tt)))))))))
+writes_back = (tt, ((refl, refl, refl), ((is-open refl refl, refl, refl), (tt, ((is-open refl refl, refl, refl), ((refl, refl), read))))))
+  where
+    granted : ListedFrom 10 first.shape first.writes_back w3
+    granted = ((is-ready refl refl refl refl, refl, refl, refl, (refl, refl)), (tt, ((refl, refl), ((is-granted refl refl, refl, refl), ((tt, refl), tt)))))
 
-writes_back-listed : Listed shape writes_back (run shape transfers (run shape silent_store (run shape loads (empty 1))))
+    read : ListedFrom 6 first.shape first.writes_back w3
+    read = ((is-open refl refl, refl, refl, refl, inl refl, refl), (tt, (tt, ((is-open refl refl, refl, refl), granted))))
+
+uncached_store : Listed first.shape first.uncached_store w4
 unfolding put put2 wipe
-writes_back-listed =
-    (tt, ((refl, refl, refl), ((record { is = refl; ungranted = refl }, refl, refl), (tt, ((record { is = refl; ungranted = refl }, refl, refl), ((refl, refl), ((record { is = refl; ungranted = refl }, refl, refl, refl, inl refl, refl), (tt, (tt, ((record { is = refl; ungranted = refl }, refl, refl), ((record { ungranted = record { is = refl; ungranted = refl }; idle = refl; acked = refl }, refl, refl, refl, (refl, refl)), (tt, ((refl, refl), ((record { is = refl; granted = refl }, refl, refl), ((tt, refl), tt)))))))))))))))
+uncached_store = (tt, ((refl, refl, refl), ((is-open refl refl, refl, λ e. absurd (cc e)), (tt, ((is-open refl refl, refl, omega arith), written)))))
+  where
+    written : ListedFrom 5 first.shape first.uncached_store w4
+    written =
+        ((is-ready refl refl refl refl, refl, refl, refl, refl, refl, refl), ((is-ready refl refl refl refl, refl, refl), (tt, (tt, ((is-granted refl refl, refl, refl), ((tt, refl), tt))))))
 
-uncached_store-listed : Listed shape uncached_store (run shape writes_back (run shape transfers (run shape silent_store (run shape loads (empty 1)))))
+evicts : Listed first.shape first.evicts w5
 unfolding put put2 wipe
-uncached_store-listed =
-    (tt, ((refl, refl, refl), ((record { is = refl; ungranted = refl }, refl, λ e. absurd (cc e)), (tt, ((record { is = refl; ungranted = refl }, refl, omega arith), ((record { ungranted = record { is = refl; ungranted = refl }; idle = refl; acked = refl }, refl, refl, refl, refl, refl, refl), ((record { ungranted = record { is = refl; ungranted = refl }; idle = refl; acked = refl }, refl, refl), (tt, (tt, ((record { is = refl; granted = refl }, refl, refl), ((tt, refl), tt)))))))))))
+evicts = (tt, ((refl, refl, refl), ((is-open refl refl, refl, refl, inl refl, λ e. absurd (cc e)), (tt, ((is-open refl refl, refl, refl), answered)))))
+  where
+    answered : ListedFrom 5 first.shape first.evicts w5
+    answered = ((is-ready refl refl refl refl, refl, refl), (tt, ((is-granted refl refl, refl, refl), ((tt, refl), tt))))
 
-evicts-listed : Listed shape evicts (run shape uncached_store (run shape writes_back (run shape transfers (run shape silent_store (run shape loads (empty 1))))))
+uncached_load : Listed first.shape first.uncached_load w6
 unfolding put put2 wipe
-evicts-listed =
-    (tt, ((refl, refl, refl), ((record { is = refl; ungranted = refl }, refl, refl, inl refl, λ e. absurd (cc e)), (tt, ((record { is = refl; ungranted = refl }, refl, refl), ((record { ungranted = record { is = refl; ungranted = refl }; idle = refl; acked = refl }, refl, refl), (tt, ((record { is = refl; granted = refl }, refl, refl), ((tt, refl), tt)))))))))
+uncached_load = (tt, ((refl, refl, refl), ((is-open refl refl, refl, refl, refl, inl refl, refl), (tt, ((is-open refl refl, refl, refl), answered)))))
+  where
+    answered : ListedFrom 5 first.shape first.uncached_load w6
+    answered = ((is-ready refl refl refl refl, refl, refl), (tt, ((is-granted refl refl, refl, refl), ((tt, refl), tt))))
 
-uncached_load-listed : Listed shape uncached_load (run shape evicts (run shape uncached_store (run shape writes_back (run shape transfers (run shape silent_store (run shape loads (empty 1)))))))
+pub first_listed : Listed first.shape first.events (empty 1)
+first_listed =
+    listed-joined first.shape
+    (first.loads ∷ first.silent_store ∷ first.transfers ∷ first.writes_back ∷ first.uncached_store ∷ first.evicts ∷ first.uncached_load ∷ []) (empty 1)
+    (loads, ((tt, tt), (transfers, (writes_back, (uncached_store, (evicts, (uncached_load, tt)))))))
+
+pub first_answers : (run first.shape first.events (empty 1)).history ≡ first.answers
 unfolding put put2 wipe
-uncached_load-listed =
-    (tt, ((refl, refl, refl), ((record { is = refl; ungranted = refl }, refl, refl, refl, inl refl, refl), (tt, ((record { is = refl; ungranted = refl }, refl, refl), ((record { ungranted = record { is = refl; ungranted = refl }; idle = refl; acked = refl }, refl, refl), (tt, ((record { is = refl; granted = refl }, refl, refl), ((tt, refl), tt)))))))))
+first_answers = refl
 
--- the pieces, each from the state that the ones before it leave
-from_evicts : Listed shape (evicts ++ uncached_load) (run shape uncached_store (run shape writes_back (run shape transfers (run shape silent_store (run shape loads (empty 1))))))
-from_evicts =
-    listed-append shape evicts (uncached_load) (run shape uncached_store (run shape writes_back (run shape transfers (run shape silent_store (run shape loads (empty 1)))))) evicts-listed uncached_load-listed
+-- THE SECOND RUN, likewise
 
-from_uncached_store : Listed shape (uncached_store ++ evicts ++ uncached_load) (run shape writes_back (run shape transfers (run shape silent_store (run shape loads (empty 1)))))
-from_uncached_store =
-    listed-append shape uncached_store (evicts ++ uncached_load) (run shape writes_back (run shape transfers (run shape silent_store (run shape loads (empty 1))))) uncached_store-listed from_evicts
+abbrev v1 : World
+v1 = run second.shape second.stores (empty 2)
 
-from_writes_back : Listed shape (writes_back ++ uncached_store ++ evicts ++ uncached_load) (run shape transfers (run shape silent_store (run shape loads (empty 1))))
-from_writes_back =
-    listed-append shape writes_back (uncached_store ++ evicts ++ uncached_load) (run shape transfers (run shape silent_store (run shape loads (empty 1)))) writes_back-listed from_uncached_store
+abbrev v2 : World
+v2 = run second.shape second.loads_beside v1
 
-from_transfers : Listed shape (transfers ++ writes_back ++ uncached_store ++ evicts ++ uncached_load) (run shape silent_store (run shape loads (empty 1)))
-from_transfers =
-    listed-append shape transfers (writes_back ++ uncached_store ++ evicts ++ uncached_load) (run shape silent_store (run shape loads (empty 1))) transfers-listed from_writes_back
+abbrev v3 : World
+v3 = run second.shape second.flushes v2
 
-from_silent_store : Listed shape (silent_store ++ transfers ++ writes_back ++ uncached_store ++ evicts ++ uncached_load) (run shape loads (empty 1))
-from_silent_store =
-    listed-append shape silent_store (transfers ++ writes_back ++ uncached_store ++ evicts ++ uncached_load) (run shape loads (empty 1)) silent_store-listed from_transfers
+abbrev v4 : World
+v4 = run second.shape second.shares v3
 
-pub all_listed : Listed shape (loads ++ silent_store ++ transfers ++ writes_back ++ uncached_store ++ evicts ++ uncached_load) (empty 1)
-all_listed =
-    listed-append shape loads (silent_store ++ transfers ++ writes_back ++ uncached_store ++ evicts ++ uncached_load) (empty 1) loads-listed from_silent_store
+abbrev v5 : World
+v5 = run second.shape second.wakes v4
+
+stores : Listed second.shape second.stores (empty 2)
+unfolding put put2 wipe
+stores = (tt, ((refl, refl, refl), ((is-open refl refl, refl, refl, refl, inl refl, refl), (tt, ((is-open refl refl, refl, refl), granted)))))
+  where
+    granted : ListedFrom 5 second.shape second.stores (empty 2)
+    granted = ((is-ready refl refl refl refl, refl, refl, refl, (refl, refl)), (tt, ((refl, refl), ((is-granted refl refl, refl, refl), tt))))
+
+loads_beside : Listed second.shape second.loads_beside v1
+unfolding put put2 wipe
+loads_beside = (tt, ((refl, refl, refl), ((refl, refl), ((is-open refl refl, refl, refl, refl, inl refl, refl), (tt, ((is-open refl refl, refl, refl), granted))))))
+  where
+    granted : ListedFrom 6 second.shape second.loads_beside v1
+    granted = ((is-ready refl refl refl refl, refl, refl, refl, inl refl), (tt, ((refl, refl), ((is-granted refl refl, refl, refl), ((tt, refl), tt)))))
+
+flushes : Listed second.shape second.flushes v2
+unfolding put put2 wipe
+flushes = (tt, ((refl, refl, refl), ((is-open refl refl, refl, record { is_owner = refl; is_way = refl }, inr refl), (tt, written))))
+  where
+    granted : ListedFrom 10 second.shape second.flushes v2
+    granted = ((is-ready refl refl refl refl, refl, refl, refl, refl), (tt, ((refl, refl), ((is-granted refl refl, refl, refl), ((tt, refl), tt)))))
+
+    read : ListedFrom 7 second.shape second.flushes v2
+    read = ((is-open refl refl, refl, refl, refl, inl refl, refl), (tt, ((is-open refl refl, refl, refl), granted)))
+
+    written : ListedFrom 4 second.shape second.flushes v2
+    written = ((is-open refl refl, refl, refl), ((refl, refl), (tt, read)))
+
+shares : Listed second.shape second.shares v3
+unfolding put put2 wipe
+shares = (tt, ((refl, refl, refl), ((is-open refl refl, refl, refl, refl, inr refl, refl), (tt, ((is-open refl refl, refl, refl), granted)))))
+  where
+    granted : ListedFrom 5 second.shape second.shares v3
+    granted = ((is-ready refl refl refl refl, refl, refl, refl, inr refl), (tt, ((refl, refl), ((is-granted refl refl, refl, refl), ((tt, refl), tt)))))
+
+wakes : Listed second.shape second.wakes v4
+unfolding put put2 wipe
+wakes = (tt, ((refl, refl, refl), ((is-open refl refl, refl, λ e. inr refl), (tt, (tt, acked)))))
+  where
+    woken : ListedFrom 8 second.shape second.wakes v4
+    woken = ((is-ready refl refl refl refl, refl, refl, inl refl, refl, refl), (tt, ((refl, refl), ((is-granted refl refl, refl, refl), ((tt, refl), tt)))))
+
+    acked : ListedFrom 5 second.shape second.wakes v4
+    acked = ((is-open refl refl, refl, omega arith), (tt, ((is-open refl refl, refl, omega arith), woken)))
+
+has_both : Listed second.shape second.has_both v5
+unfolding put put2 wipe
+has_both = (tt, ((refl, refl, refl), ((is-open refl refl, refl, refl, refl, inl refl, refl), (tt, ((is-open refl refl, refl, refl), granted)))))
+  where
+    granted : ListedFrom 5 second.shape second.has_both v5
+    granted = ((is-ready refl refl refl refl, refl, refl, refl, (refl, refl)), (tt, ((refl, refl), ((is-granted refl refl, refl, refl), ((tt, refl), (tt, tt))))))
+
+pub second_listed : Listed second.shape second.events (empty 2)
+second_listed =
+    listed-joined second.shape (second.stores ∷ second.loads_beside ∷ second.flushes ∷ second.shares ∷ second.wakes ∷ second.has_both ∷ []) (empty 2)
+    (stores, (loads_beside, (flushes, (shares, (wakes, (has_both, tt))))))
+
+pub second_answers : (run second.shape second.events (empty 2)).history ≡ second.answers
+unfolding put put2 wipe
+second_answers = refl

@@ -127,7 +127,7 @@ module _ (g : Group) (r : ℕ) (b : InProgress) (ws : ℕ → ℕ) (wr : Bool) (
     requests = good.requests;
     taker = good.taker;
     placed = good.placed;
-    transaction = (refl, tt, refl);
+    transaction = record { granted = refl; no_flush = refl; no_acks = refl; not_asked = refl; debts_apart = tt };
     pending = good.pending;
     taken = good.taken;
     copies = record {
@@ -207,7 +207,7 @@ module _ (g : Group) (r w t k n : ℕ) (rd : Reading) (wr : Bool) (inv : ℕ →
     requests = good.requests;
     taker = good.taker;
     placed = good.placed;
-    transaction = (refl, tt, refl);
+    transaction = record { granted = refl; no_flush = refl; no_acks = refl; not_asked = not_asked; debts_apart = tt };
     pending = good.pending;
     taken = good.taken;
     copies = record {

@@ -10,7 +10,7 @@ use Rattle.bk_machine.specs.Phases.{Phase, Settling}
 use Rattle.bk_machine.proofs.Allowed.{fits, VictimLight}
 use Rattle.bk_machine.specs.Actions.{may_pair, Action, NoGranted, action_after, flushes as flushes_after}
 use Rattle.bk_machine.specs.World.{Group, World, only, mine, view}
-use Rattle.bk_machine.specs.Invariant.{Good, GrantedTransaction, TransactionAt}
+use Rattle.bk_machine.specs.Invariant.{Good, NoneOrGranted, TransactionAt}
 use Rattle.bk_machine.proofs.View.{only-push, only-push_other, only-head, mine-some, mine-none}
 use Rattle.bk_machine.proofs.Writes.{seen, pushed, left, pushed_other, left_other, some_is, none_is, from_none, from_some, to_none, directory-here, directory-other, pending-here, pending-other, taken-here, taken-other, settled-here, settled-other, request-here, request-other, command-here, command-other, response-here, response-other, transaction-here, transaction-other, memout-here, memout-other, memin-here, memin-other, commands-here, commands-other}
 use Rattle.bk_machine.proofs.Wraps.{Fine, takes, settles}
@@ -25,15 +25,15 @@ use Rattle.bk_base.specs.declared.coh.Coh.{Coh}
 use Rattle.bk_base.specs.declared.coh.Coh.TheVariants.{M}
 use Rattle.bk_base.specs.States.{is_readable, is_owner_like}
 
-settle-none : (s : ℕ) (transaction : Option (ℕ × Transaction)) → NoGranted transaction → GrantedTransaction (mine s transaction) → mine s transaction ≡ None
+settle-none : (s : ℕ) (transaction : Option (ℕ × Transaction)) → NoGranted transaction → NoneOrGranted (mine s transaction) → mine s transaction ≡ None
 settle-none s None a b = refl
 settle-none s (Some x) a b = at (eqb s x.0) b
   where
-    at : (y : Bool) → GrantedTransaction (cond y (Some x.1) None) → cond y (Some x.1) None ≡ None
-    at true b = absurd (true≢false (sym b.0 ∙ a))
+    at : (y : Bool) → NoneOrGranted (cond y (Some x.1) None) → cond y (Some x.1) None ≡ None
+    at true b = absurd (true≢false (sym b.granted ∙ a))
     at false b = refl
 
-settles_on : (p : Phase) (g : Group) (c t : ℕ) (rest : List Response) → Good p g → (GrantedTransaction g.transaction → g.transaction ≡ None)
+settles_on : (p : Phase) (g : Group) (c t : ℕ) (rest : List Response) → Good p g → (NoneOrGranted g.transaction → g.transaction ≡ None)
     → g.response c ≡ CohAck t ∷ rest
     → Fine (record g { response = put g.response c rest; pending = false; settled = g.settled + 1 })
 settles_on p g c t rest good f k =

@@ -8,12 +8,13 @@ use Rattle.bk_base.specs.declared.coh.Coh.{Coh}
 use Rattle.bk_base.specs.States.{is_readable, covers}
 use Rattle.bk_machine.specs.Entries.{Entry, Holds}
 use Rattle.bk_machine.specs.Messages.{op_tag}
-use Rattle.bk_machine.specs.Transactions.{InProgress, Transaction, Debt, Idle, pay, paid}
+use Rattle.bk_machine.specs.Transactions.{InProgress, Transaction, Debt, pay, paid}
 use Rattle.bk_machine.specs.World.{World, view}
 use Rattle.bk_machine.specs.Phases.{Flush, NoFlush, FlushSent, FlushDone, Ack, Phase, Free, Open, Flying, Settling, inv_effect, flush_effect}
-use Rattle.bk_machine.specs.Invariant.{Good, Copies, FlushAims, TransactionAt, OpenTransaction, Invariant, Recorded, RecordOf}
+use Rattle.bk_machine.specs.Invariant.{Good, Copies, FlushAims, TransactionAt, OpenTransaction, GrantedTransaction, Invariant, Recorded, RecordOf}
 use Rattle.bk_machine.proofs.View.{mine-some}
 use Rattle.bk_machine.proofs.DirectoryReads.{Readable}
+use Rattle.bk_machine.proofs.Settle.{at_granted}
 
 -- a transaction that isn't granted stands open
 pub record AtOpen (p : Phase) (x : Transaction) : Type 0 where
@@ -25,17 +26,10 @@ pub record AtOpen (p : Phase) (x : Transaction) : Type 0 where
   pub at : OpenTransaction cache busy flush acks x
 
 pub at_open : (p : Phase) (x : Transaction) → TransactionAt p (Some x) → x.granted ≡ false → AtOpen p x
-at_open Free x t g = absurd (true≢false (sym t.0 ∙ g))
+at_open Free x t g = absurd (true≢false (sym t.granted ∙ g))
 at_open (Open r b fl inv) x t g = record { cache = r; busy = b; flush = fl; acks = inv; is = refl; at = t }
-at_open (Flying r b f) x t g = absurd (true≢false (sym t.0 ∙ g))
-at_open (Settling r u) x t g = absurd (true≢false (sym t.0 ∙ g))
-
--- and one that is granted keeps no block
-pub granted_idle : (p : Phase) (x : Transaction) → TransactionAt p (Some x) → x.granted ≡ true → x.write_back ≡ Idle
-granted_idle Free x t g = t.2
-granted_idle (Open r b fl inv) x t g = absurd (true≢false (sym g ∙ t.ungranted))
-granted_idle (Flying r b f) x t g = t.2
-granted_idle (Settling r u) x t g = t.2
+at_open (Flying r b f) x t g = absurd (true≢false (sym t.granted ∙ g))
+at_open (Settling r u) x t g = absurd (true≢false (sym t.granted ∙ g))
 
 -- an entry that the directory has at an open phase is held by its cache
 flush-held : (fl : Flush) (c v : ℕ) (h : ℕ → ℕ → Entry) → FlushAims fl h → is_readable (flush_effect fl c v (h c v)).state ≡ true
@@ -76,6 +70,9 @@ module _ (k : Shape) (w : World) (inv : Invariant k w) (s : ℕ) (x : Transactio
 
   pub opened : x.granted ≡ false → AtOpen (inv.groups s).0 x
   opened g = at_open (inv.groups s).0 x standing g
+
+  pub granted : x.granted ≡ true → GrantedTransaction x
+  granted g = at_granted (inv.groups s).0 x standing g
 
   pub copies-here : x.granted ≡ false → Copies (inv.groups s).0 (w.directory s) (w.held s)
   copies-here g = subst (λ (d : ℕ → ℕ → Entry). Copies (inv.groups s).0 d (w.held s))

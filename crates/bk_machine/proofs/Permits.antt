@@ -14,7 +14,7 @@ use Rattle.bk_machine.specs.Invariant.{Invariant}
 use Rattle.bk_machine.proofs.Allowed.{Allowed, VictimLight}
 use Rattle.bk_machine.proofs.Summary.{found}
 use Rattle.bk_machine.proofs.DirectoryReads.{Readable, OwnerIs, owner-at, owner-state-at, own-none, own-light, own-found, others-light, nobody, owner-alone, block-fits, recipients, victim-light, victim-heavy, same-eq, differ-eq}
-use Rattle.bk_machine.proofs.Opened.{opened, readable, record_of, granted_idle, standing}
+use Rattle.bk_machine.proofs.Opened.{opened, readable, granted, record_of}
 
 flush-light : (y : Coh) → FlushState y → is_light y ≡ true
 flush-light y (inl e) = subst (λ (x : Coh). is_light x ≡ true) (sym e) refl
@@ -88,7 +88,7 @@ module _ (k : Shape) (s : ℕ) (w : World) (inv : Invariant k w) where
   permitted_allowed (WritesBack b x) p = (record { is = p.0; ungranted = kept x.granted refl }, p.1)
     where
       kept : (g : Bool) → x.granted ≡ g → x.granted ≡ false
-      kept true e = absurd (cc (sym (granted_idle _ x (standing k w inv s x p.0) e) ∙ p.1))
+      kept true e = absurd (cc (sym (granted k w inv s x p.0 e).no_flush ∙ p.1))
       kept false e = e
   permitted_allowed (ReadsMemory x) p = (p.0, p.3, p.2, p.1, λ c v h. light c v h)
     where

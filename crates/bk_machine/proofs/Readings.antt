@@ -142,8 +142,8 @@ module _ (k : Shape) (w : World) (inv : Invariant k w) (s : ℕ) (x : Transactio
       lem : e.cache ≢ x.cache → cond (eqb x.cache e.cache && eqb v e.way) e.held (w.directory s x.cache v) ≡ w.directory s x.cache v
       lem n = grind (arith, nat_tests)
 
-  own-owes : (e : Debt) → x.requester_debt ≡ Some e → (v : ℕ) → own_way_for k (w.directory s) x ≡ Some v → v ≡ e.way
-  own-owes e f v q = decide (eqb v e.way) refl
+  own-owes : (e : Debt) → x.requester_debt ≡ Some e → (v : ℕ) → Holds (w.directory s x.cache v) (request_tag x.request) → v ≡ e.way
+  own-owes e f v h = decide (eqb v e.way) refl
     where
       r : RequesterOwes x.cache x.request e
       r = recorded.requester e f
@@ -170,7 +170,7 @@ module _ (k : Shape) (w : World) (inv : Invariant k w) (s : ℕ) (x : Transactio
       decide : (b : Bool) → eqb v e.way ≡ b → v ≡ e.way
       decide true g = is-way g
       decide false g = paid-way (request_tag x.request) x.cache v e.way
-          (subst (λ (h : Entry). Holds h (request_tag x.request)) (sym (paid-is v ∙ elsewhere (w.directory s x.cache v) g)) (found k.ways (w.directory s x.cache) (request_tag x.request) v q).1)
+          (subst (λ (h : Entry). Holds h (request_tag x.request)) (sym (paid-is v ∙ elsewhere (w.directory s x.cache v) g)) h)
           (subst (λ (h : Entry). Holds h (request_tag x.request)) (sym (paid-is e.way ∙ at-debt (w.directory s x.cache e.way))) r.holds)
 
   owner-owes : (e : Debt) → x.owner_debt ≡ Some e → OwnerAt k (w.directory s) x e.cache e.way

@@ -13,11 +13,12 @@ use Rattle.bk_machine.specs.Messages.{Request, request_tag, request_way, request
 use Rattle.bk_machine.specs.Transactions.{Transaction, Debt, Asked, remove_one}
 use Rattle.bk_machine.specs.World.{World}
 use Rattle.bk_machine.specs.Steps.{Step, step_after, LoadHits, StoreHits, Asks, EvictIdles, InvComes, FlushComes, TransferComes, BlockLoads, BlockStores, WakeStores, WordComes, StoreComes, EvictComes, FillLoads, FillStores, MemoryReads, MemoryWrites, MemoryWritesWord}
-use Rattle.bk_machine.specs.Actions.{Action, action_after, Permitted, Takes, Settles, CollectsAck, CollectsAnswer, CollectsBlock, Invalidates, FlushesVictim, FlushesOwn, FlushesOwner, WritesBack, ReadsMemory, WritesWord, GrantsByBlock, GrantsByWake, GrantsByTransfer, AnswersWord, AnswersStore, AnswersEvict, PaysRequester, PaysOwner, Finishes, Idles, Ungranted, OwnerAt, flushes, requester_owes, owner_owes}
+use Rattle.bk_machine.specs.Actions.{Action, action_after, Permitted, Takes, Settles, CollectsAck, CollectsAnswer, CollectsBlock, Invalidates, FlushesVictim, FlushesOwn, FlushesOwner, WritesBack, ReadsMemory, WritesWord, GrantsByBlock, GrantsByWake, GrantsByTransfer, AnswersWord, AnswersStore, AnswersEvict, PaysRequester, PaysOwner, Finishes, Idles, Ungranted, OwnerAt, owner_state_for, may_pair, flushes, requester_owes, owner_owes}
 use Rattle.bk_machine.specs.Invariant.{Invariant, Recorded, RecordOf, RequesterOwes, OwnerOwes}
 use Rattle.bk_machine.proofs.View.{put-here}
 use Rattle.bk_machine.proofs.DirectoryReads.{Readable, OwnerIs, owner-at, owner-only, recipients}
 use Rattle.bk_machine.proofs.Opened.{opened, readable, record_of}
+use Rattle.bk_machine.proofs.Transfer.{pair-weaker}
 
 pub step_record : (k : Shape) (s : ℕ) (a : Step) (w : World) → RecordOf k w.transaction w.directory
     → RecordOf k (step_after s a w).transaction (step_after s a w).directory
@@ -115,11 +116,13 @@ module _ (k : Shape) (s : ℕ) (w : World) (inv : Invariant k w) where
       some_is q = cc
 
   -- the owner's debt of a transfer
-  transferred-by : (x : Transaction) (u : Ungranted s x w) (o v : ℕ) (y : Coh) (e : Debt) → OwnerAt k (w.directory s) x o v → owner_owes o v x y ≡ Some e
-      → OwnerOwes k x.cache x.request (w.directory s) e
-  transferred-by x u o v y e a f = subst (λ (d : Debt). OwnerOwes k x.cache x.request (w.directory s) d) (some_is f)
+  transferred-by : (x : Transaction) (u : Ungranted s x w) (o v : ℕ) (y z : Coh) (e : Debt) → OwnerAt k (w.directory s) x o v
+      → may_pair (owner_state_for k (w.directory s) x) y z ≡ true → owner_owes o v x y ≡ Some e → OwnerOwes k x.cache x.request (w.directory s) e
+  transferred-by x u o v y z e a p f = subst (λ (d : Debt). OwnerOwes k x.cache x.request (w.directory s) d) (some_is f)
       (record {
         other = at.other;
+        tag = refl;
+        weaker = pair-weaker (owner_state_for k (w.directory s) x) y z p;
         range = good.range o v (request_tag x.request) at.holds;
         holds = at.holds;
         owner_like = at.owner_like;
@@ -140,6 +143,8 @@ module _ (k : Shape) (s : ℕ) (w : World) (inv : Invariant k w) where
       → OwnerOwes k x.cache x.request (put2 (w.directory s) d.cache d.way d.held) e
   owner-stays x d e r o = record {
     other = o.other;
+    tag = o.tag;
+    weaker = o.weaker;
     range = o.range;
     holds = subst (λ (h : Entry). Holds h (request_tag x.request)) (sym (same e.cache e.way o.other)) o.holds;
     owner_like = ap (λ (h : Entry). is_owner_like h.state) (same e.cache e.way o.other) ∙ o.owner_like;
@@ -208,7 +213,7 @@ module _ (k : Shape) (s : ℕ) (w : World) (inv : Invariant k w) where
       waking = record { at_cache = refl; at_way = sym (ap request_way p.1); holds = record { is_valid = refl; is_tag = sym (ap request_tag p.1) } }
   action_record (GrantsByTransfer o v y z x) p =
       let r = old x p.0.ungranted.is in
-      record { from = r.from; unread = r.unread; requester = λ e f. granted-by x z e p.5 f; owner = λ e f. transferred-by x p.0.ungranted o v y e p.3 f }
+      record { from = r.from; unread = r.unread; requester = λ e f. granted-by x z e p.5 f; owner = λ e f. transferred-by x p.0.ungranted o v y z e p.3 p.4 f }
   action_record (AnswersWord t i ws x) p =
       let o = old x p.0.ungranted.is in record { from = o.from; unread = o.unread; requester = o.requester; owner = o.owner }
   action_record (AnswersStore t i n x) p =

@@ -1,14 +1,21 @@
 -- Facts that follow once nothing is on its way to a cache, or no transaction is open.
-use Rattle.std.proofs.Common.{◌≡◌, ℕ, ◌+◌, Bool, true, false, cond, not, ◌&&◌, refl, arith, List, [], ◌∷◌, sym, ◌∙◌, subst, ap, length}
+use Rattle.std.proofs.Common.{◌≡◌, ℕ, ◌+◌, Bool, true, false, cond, not, ◌&&◌, refl, arith, List, [], ◌∷◌, sym, ◌∙◌, subst, ap, length, true≢false}
 use Rattle.std.specs.Prelude.{Option, Some, None}
 use Rattle.bk_base.specs.States.{is_writable}
 use Rattle.bk_machine.specs.Entries.{Entry, Holds}
 use Rattle.bk_machine.specs.Messages.{Op, Load, Store, UcLoad, UcStore, Evict, ToMemory, Block, request_tag}
 use Rattle.bk_machine.specs.Transactions.{Reading, NotRead, ReadAsked, Got, Transaction, is_asked}
-use Rattle.bk_machine.specs.Phases.{Phase, expected}
-use Rattle.bk_machine.specs.Invariant.{Copies, Matches, Standing, OneWay, Alone, OneOwner, AllLight, Values, ReadValues, TransactionValues, OpenValues, MemoryChannels, reads, BlocksFor, is_reading, transaction_tag, GrantedTransaction, Placed}
+use Rattle.bk_machine.specs.Phases.{Phase, Free, Open, Flying, Settling, expected}
+use Rattle.bk_machine.specs.Invariant.{Copies, Matches, Standing, OneWay, Alone, OneOwner, AllLight, Values, ReadValues, TransactionValues, OpenValues, MemoryChannels, reads, BlocksFor, is_reading, transaction_tag, GrantedTransaction, NoneOrGranted, TransactionAt, Placed}
 use Rattle.bk_machine.proofs.Growing.{ReadsFor-none}
 use Rattle.bk_machine.proofs.Fewer.{Fewer, OneWay-fewer, Alone-fewer}
+
+-- a transaction that is granted stands at no open phase
+pub at_granted : (p : Phase) (x : Transaction) → TransactionAt p (Some x) → x.granted ≡ true → GrantedTransaction x
+at_granted Free x t g = t
+at_granted (Open r b fl inv) x t g = absurd (true≢false (sym g ∙ t.ungranted))
+at_granted (Flying r b f) x t g = t
+at_granted (Settling r u) x t g = t
 
 -- caches that the directory covers have no more than it says
 pub matches-fewer : (d h : ℕ → ℕ → Entry) → ((c w : ℕ) → Matches (d c w) (h c w)) → Fewer h d
@@ -17,18 +24,18 @@ matches-fewer d h m = record {
   writes = λ c w t k e. grind (arith, m c w);
 }
 
-pub OpenValues-granted : (transaction : Option Transaction) (h : ℕ → ℕ → Entry) (v a : ℕ → ℕ → ℕ) → GrantedTransaction transaction
+pub OpenValues-granted : (transaction : Option Transaction) (h : ℕ → ℕ → Entry) (v a : ℕ → ℕ → ℕ) → NoneOrGranted transaction
     → OpenValues transaction h v a
 OpenValues-granted None h v a e = tt
-OpenValues-granted (Some x) h v a e = rw e.0 tt
+OpenValues-granted (Some x) h v a e = rw e.granted tt
 
 no_blocks : (t : ℕ) (ws : ℕ → ℕ) (bs : List Block) → length bs ≡ 0 → BlocksFor t ws bs
 no_blocks t ws [] e = tt
 no_blocks t ws (b ∷ bs) e = absurd (omega arith)
 
-not_reading : (transaction : Option Transaction) → GrantedTransaction transaction → is_reading transaction ≡ false
-not_reading None e = refl
-not_reading (Some x) e = rw e.0 refl
+pub granted-unread : (transaction : Option Transaction) → NoneOrGranted transaction → is_reading transaction ≡ false
+granted-unread None e = refl
+granted-unread (Some x) e = rw e.granted refl
 
 pub channels-none : (transaction ty : Option Transaction) (m v w : ℕ → ℕ → ℕ) (ms : List ToMemory) (bs : List Block) → is_reading transaction ≡ false
     → is_reading ty ≡ false → MemoryChannels transaction m v ms bs → MemoryChannels ty m w ms bs
@@ -40,9 +47,9 @@ channels-none transaction ty m v w ms bs e f c =
       back = no_blocks (transaction_tag ty) _ bs (omega arith);
     }
 
-pub channels-granted : (transaction : Option Transaction) (m v w : ℕ → ℕ → ℕ) (ms : List ToMemory) (bs : List Block) → GrantedTransaction transaction
+pub channels-granted : (transaction : Option Transaction) (m v w : ℕ → ℕ → ℕ) (ms : List ToMemory) (bs : List Block) → NoneOrGranted transaction
     → MemoryChannels transaction m v ms bs → MemoryChannels transaction m w ms bs
-channels-granted transaction m v w ms bs e c = channels-none transaction transaction m v w ms bs (not_reading transaction e) (not_reading transaction e) c
+channels-granted transaction m v w ms bs e c = channels-none transaction transaction m v w ms bs (granted-unread transaction e) (granted-unread transaction e) c
 
 pub Placed-same : (op : Op) (w : ℕ) (h k : ℕ → Entry) → ((v : ℕ) → h v ≡ k v) → Placed op w h → Placed op w k
 Placed-same (Load t j) w h k f p = λ v. subst (λ (e : Entry). Holds e t → ⊥) (f v) (p v)

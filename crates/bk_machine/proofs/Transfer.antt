@@ -19,6 +19,10 @@ use Rattle.bk_machine.proofs.Engine.{not_at}
 use Rattle.bk_machine.proofs.Grant.{with_entry, OneWay-entry, Alone-entry, OneOwner-entry, quiet-matches, quiet-commands, quiet-responses, wants_block, wants-reads, placed-op, covered-holds, light-entry}
 use Rattle.bk_base.specs.States.{is_readable, is_writable, is_dirty, is_owner_like}
 
+-- no transfer leaves the owner a state that it may write
+pub pair-weaker : (z y x : Coh) → may_pair z y x ≡ true → is_writable y ≡ false
+pair-weaker z y x e = grind arith
+
 module _ (g : Group) (r o ow : ℕ) (b : InProgress) (rd : Reading) (wr : Bool) (inv : ℕ → Ack) (y x : Coh)
     (good : Good (Open r b NoFlush inv) (record g { transaction = Some (open_transaction r b Idle rd wr []) }))
     (kind : wants_block b.op ≡ true) (suit : suits b.op x ≡ true) (not_asked : is_asked rd ≡ false)
@@ -36,10 +40,7 @@ module _ (g : Group) (r o ow : ℕ) (b : InProgress) (rd : Reading) (wr : Bool) 
   m = quiet-matches g r b rd wr inv good
 
   not_writable : is_writable y ≡ false
-  not_writable = lem (g.directory o ow).state pair
-    where
-      lem : (z : Coh) → may_pair z y x ≡ true → is_writable y ≡ false
-      lem z e = grind arith
+  not_writable = pair-weaker (g.directory o ow).state y x pair
 
   x_valid : is_readable x ≡ true
   x_valid = lem (g.directory o ow).state pair
@@ -146,7 +147,7 @@ module _ (g : Group) (r o ow : ℕ) (b : InProgress) (rd : Reading) (wr : Bool) 
     requests = good.requests;
     taker = good.taker;
     placed = good.placed;
-    transaction = (refl, (λ e. other (sym e)), refl);
+    transaction = record { granted = refl; no_flush = refl; no_acks = refl; not_asked = not_asked; debts_apart = λ e. other (sym e) };
     pending = good.pending;
     taken = good.taken;
     copies = record {

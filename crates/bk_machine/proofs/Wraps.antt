@@ -131,11 +131,11 @@ opened p g x good e f = at p (subst (λ (h : Group). Good p h) (with_transaction
     }
 
     at : (p : Phase) → Good p (record g { transaction = Some x }) → Opened g x
-    at Free q = absurd (cc (f, q.transaction.0))
+    at Free q = absurd (cc (f, q.transaction.granted))
     at (Open r b fl inv) q =
         let q2 : Good (Open x.cache b fl inv) (record g { transaction = Some x }) =
         subst (λ (r : ℕ). Good (Open r b fl inv) (record g { transaction = Some x })) (sym q.transaction.is_cache) q in
         let s : x ≡ open_transaction x.cache b x.write_back x.reading x.written x.waiting = shape x.cache b fl inv q2.transaction in
         record { busy = b; fl = fl; inv = inv; shape = s; good = subst (λ (y : Transaction). Good (Open x.cache b fl inv) (record g { transaction = Some y })) s q2 }
-    at (Flying r b f2) q = absurd (cc (f, q.transaction.0))
-    at (Settling r t) q = absurd (cc (f, q.transaction.0))
+    at (Flying r b f2) q = absurd (cc (f, q.transaction.granted))
+    at (Settling r t) q = absurd (cc (f, q.transaction.granted))

@@ -305,18 +305,26 @@ DebtsApart None e = Unit {0}
 DebtsApart (Some d) None = Unit {0}
 DebtsApart (Some d) (Some e) = d.cache ≢ e.cache
 
--- a transaction that is granted, if there is one, has no flush
-abbrev pub GrantedTransaction : Option Transaction → Type 0
-GrantedTransaction None = Unit {0}
-GrantedTransaction (Some x) = (x.granted ≡ true) × DebtsApart x.requester_debt x.owner_debt × x.write_back ≡ Idle
+-- the granted transaction's record: it waits for no flush, no ack and no read, and its debts are of two caches
+pub record GrantedTransaction (x : Transaction) : Type 0 where
+  pub granted : x.granted ≡ true
+  pub no_flush : x.write_back ≡ Idle
+  pub no_acks : x.waiting ≡ []
+  pub not_asked : is_asked x.reading ≡ false
+  pub debts_apart : DebtsApart x.requester_debt x.owner_debt
+
+-- there is no transaction, or one that is granted
+abbrev pub NoneOrGranted : Option Transaction → Type 0
+NoneOrGranted None = Unit {0}
+NoneOrGranted (Some x) = GrantedTransaction x
 
 -- the transaction by phase: open where the group's phase is, else none or granted
 abbrev pub TransactionAt : Phase → Option Transaction → Type 0
-TransactionAt Free transaction = GrantedTransaction transaction
+TransactionAt Free transaction = NoneOrGranted transaction
 TransactionAt (Open r b fl inv) None = ⊥
 TransactionAt (Open r b fl inv) (Some x) = OpenTransaction r b fl inv x
-TransactionAt (Flying r b f) transaction = GrantedTransaction transaction
-TransactionAt (Settling r t) transaction = GrantedTransaction transaction
+TransactionAt (Flying r b f) transaction = NoneOrGranted transaction
+TransactionAt (Settling r t) transaction = NoneOrGranted transaction
 
 -- the operation of the cache that holds the group is in progress
 abbrev pub Taker : Phase → (ℕ → Option InProgress) → Type 0
@@ -426,9 +434,12 @@ pub record RequesterOwes (r : ℕ) (q : Request) (e : Debt) : Type 0 where
   pub at_way : e.way ≡ request_way q
   pub holds : Holds e.held (request_tag q)
 
--- the owner's debt is at another cache, whose entry still has the block, owner-like, as no other cache but the requester may
+-- the owner's debt is of the request's block, in a state that no one may write, at another cache, whose entry still has the block,
+-- owner-like, as no other cache but the requester may
 pub record OwnerOwes (k : Shape) (r : ℕ) (q : Request) (d : ℕ → ℕ → Entry) (e : Debt) : Type 0 where
   pub other : e.cache ≢ r
+  pub tag : e.held.tag ≡ request_tag q
+  pub weaker : is_writable e.held.state ≡ false
   pub range : InRange k e.cache e.way
   pub holds : Holds (d e.cache e.way) (request_tag q)
   pub owner_like : is_owner_like (d e.cache e.way).state ≡ true

@@ -10,6 +10,7 @@ pub mod Phases
 pub mod Products
 pub mod Readings
 pub mod Runs
+pub mod SecondExample
 pub mod Steps
 pub mod Tables
 pub mod Transactions

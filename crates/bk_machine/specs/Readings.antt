@@ -29,8 +29,8 @@ pub record OpenReadings (k : Shape) (s : ℕ) (x : Transaction) (w : World) : Ty
 
 -- A debt is unpaid.
 pub record DebtReadings (k : Shape) (s : ℕ) (x : Transaction) (w : World) : Type 0 where
-  -- own, where it is read at all, is read at the way that the requester's debt will be paid at
-  pub own : (e : Debt) → x.requester_debt ≡ Some e → (v : ℕ) → own_way_for k (w.directory s) x ≡ Some v → v ≡ e.way
+  -- the requester has an entry of the block at no other way than the one that its debt will be paid at
+  pub own : (e : Debt) → x.requester_debt ≡ Some e → (v : ℕ) → Holds (w.directory s x.cache v) (request_tag x.request) → v ≡ e.way
   -- there is an owner, and it is the entry that the owner's debt will be paid at
   pub owner : (e : Debt) → x.owner_debt ≡ Some e → OwnerAt k (w.directory s) x e.cache e.way
 
