@@ -14,6 +14,8 @@ use Rattle.bk_msg.specs.declared.row.Row.TheVariants as rows
 use Rattle.bk_engine.specs.declared.parts.Core.{Core}
 use Rattle.bk_engine.specs.declared.parts.Held.{Held}
 use Rattle.bk_engine.specs.declared.parts.Kept.{Kept}
+use Rattle.bk_engine.specs.declared.parts.RequestKind.{RequestKind}
+use Rattle.bk_engine.specs.declared.parts.RequestKind.TheVariants as kinds
 use Rattle.bk_machine.specs.Actions.{Action, Takes, Settles, CollectsAck, CollectsAnswer, CollectsBlock, sends, with_transaction, Invalidates, FlushesVictim, FlushesOwn, FlushesOwner, WritesBack, ReadsMemory, WritesWord, GrantsByBlock, GrantsByWake, GrantsByTransfer, AnswersWord, AnswersStore, AnswersEvict, PaysRequester, PaysOwner, Finishes, Idles, action_after, sent_to}
 use Rattle.bk_machine.specs.Actions as actions
 use Rattle.bk_machine.specs.Directory as machine
@@ -22,9 +24,20 @@ use Rattle.bk_machine.specs.Messages.{StTr, Blk, StWake, UcBlk, UcDone, Done, Re
 use Rattle.bk_machine.specs.Products.{words_of, as_request, as_response, as_block}
 use Rattle.bk_machine.specs.Transactions.{Idle, ReadAsked, Transaction, fresh}
 use Rattle.bk_machine.specs.World.{World}
-use Rattle.bk_bridge.specs.Acting.{Serves, PopsAlike, debt_at, victim_action, flush_action, kept_action, pay_action, action_of}
+use Rattle.bk_bridge.specs.Acting.{request_by, Serves, PopsAlike, debt_at, victim_action, flush_action, kept_action, pay_action, action_of}
 use Rattle.bk_bridge.specs.Effects as effects
 use Rattle.bk_bridge.specs.Effects.{pops_head}
+
+-- the tag of the request that is served
+kind-tag : (k : Shape) (kind : RequestKind) (h : Held) → request_tag (request_by k kind h) ≡ tag_at k h.addr
+kind-tag k kinds.Rd h = refl
+kind-tag k kinds.Wr h = refl
+kind-tag k kinds.UcRd h = refl
+kind-tag k kinds.UcWr h = refl
+kind-tag k kinds.Evict h = refl
+
+pub serves-tag : (k : Shape) (h : Held) (x : Transaction) → Serves k h x → request_tag x.request ≡ tag_at k h.addr
+serves-tag k h x serves = ap request_tag serves.request ∙ kind-tag k h.kind h
 
 module _ (k : Shape) (e : Core) (h : Held) (x : Transaction) (w : World) (serves : Serves k h x) where
   abbrev s : ℕ
@@ -41,7 +54,7 @@ module _ (k : Shape) (e : Core) (h : Held) (x : Transaction) (w : World) (serves
   cache = sym serves.cache
 
   tag : t ≡ request_tag x.request
-  tag = sym serves.tag
+  tag = sym (serves-tag k h x serves)
 
   way : h.way ≡ request_way x.request
   way = sym serves.way

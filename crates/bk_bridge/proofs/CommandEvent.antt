@@ -21,7 +21,7 @@ use Rattle.bk_machine.specs.CacheTable.{at_way, commanded}
 use Rattle.bk_machine.specs.Runs as machine
 use Rattle.bk_bridge.specs.Worlds.{world_of}
 use Rattle.bk_bridge.specs.Formed.{AreOf, IsOf, WellFormed}
-use Rattle.bk_bridge.specs.Bridge.{IsStep}
+use Rattle.bk_bridge.specs.Steps.{IsStep}
 use Rattle.bk_bridge.proofs.Places.{sets_pos}
 use Rattle.bk_bridge.proofs.Agrees.{Agrees, behind, left_of, IsSame, same, found-find}
 use Rattle.bk_bridge.proofs.Channels.{left}

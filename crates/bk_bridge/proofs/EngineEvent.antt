@@ -85,6 +85,7 @@ outcome-keeps k n o f h = record {
   response = heads-formed networks.Response 1 o.popped n.response f.response;
   memout = memout-formed o.sent n.memout h.sent f.memout;
   memin = memin-formed o.popped n.memin f.memin;
+  history = f.history;
   engine = h.engine;
 }
 

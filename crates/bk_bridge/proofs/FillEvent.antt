@@ -25,7 +25,7 @@ use Rattle.bk_machine.specs.World.{World}
 use Rattle.bk_machine.specs.Runs as machine
 use Rattle.bk_bridge.specs.Worlds.{world_of, begun_of}
 use Rattle.bk_bridge.specs.Formed.{AreOf, IsOf, WellFormed}
-use Rattle.bk_bridge.specs.Bridge.{IsStep}
+use Rattle.bk_bridge.specs.Steps.{IsStep}
 use Rattle.bk_bridge.proofs.Places.{sets_pos, blocks}
 use Rattle.bk_bridge.proofs.Tables.{put-put2}
 use Rattle.bk_bridge.proofs.Agrees.{Agrees, behind, left_of, IsSame, same}

@@ -21,7 +21,7 @@ use Rattle.bk_machine.specs.CacheTable.{at_way, issue_row, issue}
 use Rattle.bk_machine.specs.Runs as machine
 use Rattle.bk_bridge.specs.Worlds.{world_of, begun_of}
 use Rattle.bk_bridge.specs.Formed.{WellFormed}
-use Rattle.bk_bridge.specs.Bridge.{IsStep}
+use Rattle.bk_bridge.specs.Steps.{IsStep}
 use Rattle.bk_bridge.proofs.Places.{group-start, tag-start}
 use Rattle.bk_bridge.proofs.Agrees.{Agrees, behind, neither, left_of, IsSame, same, found-find}
 use Rattle.bk_bridge.proofs.IssueRows.{asks_row, load_hits_row, store_hits_row, evict_idles_row}

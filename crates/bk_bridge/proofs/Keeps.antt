@@ -12,7 +12,8 @@ use Rattle.bk_system.specs.State.{State}
 use Rattle.bk_system.specs.Memory.{answer_to}
 use Rattle.bk_system.specs.Events.{first, takes, accessed, command_of, fill_of, without_command, without_fill}
 use Rattle.bk_system.specs.Runs.{state_after_row, after, run_from}
-use Rattle.bk_bridge.specs.Formed.{WellFormed, AreOf, IsOf, IsLawful, AreLawful}
+use Rattle.bk_system.specs.Lawful.{IsLawful, AreLawful}
+use Rattle.bk_bridge.specs.Formed.{WellFormed, AreOf, IsOf}
 use Rattle.bk_bridge.proofs.Places.{start_IsAddr}
 use Rattle.bk_bridge.proofs.Formed.{put-all, guard, push, without_head}
 use Rattle.bk_bridge.proofs.EngineEvent.{engine-keeps}
@@ -39,6 +40,7 @@ command-left k n c f = record {
   response = f.response;
   memout = f.memout;
   memin = f.memin;
+  history = f.history;
   engine = f.engine;
 }
 
@@ -54,6 +56,7 @@ fill-left k n to from f = record {
   response = f.response;
   memout = f.memout;
   memin = f.memin;
+  history = f.history;
   engine = f.engine;
 }
 
@@ -90,6 +93,7 @@ memory-keeps k n (m ∷ ms) h f g = record {
   response = f.response;
   memout = g;
   memin = answered n.memory m n.memin h.0 f.memin;
+  history = f.history;
   engine = f.engine;
 }
 

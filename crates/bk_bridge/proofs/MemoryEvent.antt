@@ -11,7 +11,7 @@ use Rattle.bk_machine.specs.Transactions.{Transaction}
 use Rattle.bk_machine.specs.Products.{as_block}
 use Rattle.bk_machine.specs.Runs as machine
 use Rattle.bk_bridge.specs.Formed.{AreOf, IsOf, WellFormed}
-use Rattle.bk_bridge.specs.Bridge.{IsStep}
+use Rattle.bk_bridge.specs.Steps.{IsStep}
 use Rattle.bk_bridge.proofs.Places.{group-start, tag-start, sets_pos}
 use Rattle.bk_bridge.proofs.Channels.{pushed, unpushed}
 use Rattle.bk_bridge.proofs.MemoryWrites.{block_written, word_written, block_read}

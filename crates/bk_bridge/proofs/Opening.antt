@@ -70,5 +70,6 @@ opens_formed k p = record {
   response = λ c. tt;
   memout = tt;
   memin = tt;
-  engine = record { head = tt; held = tt; dirty = tt; got = tt; entries = λ c s w. tags k.sets (set-count k.sets p.sets) };
+  history = tt;
+  engine = record { head = tt; held = tt; dirty = tt; got = tt; flags = refl; entries = λ c s w. tags k.sets (set-count k.sets p.sets) };
 }

@@ -14,7 +14,7 @@ use Rattle.bk_msg.specs.Within.{IsWithin}
 use Rattle.bk_lce.specs.declared.line.InProgress.{InProgress}
 use Rattle.bk_lce.specs.CacheTable as table
 use Rattle.bk_lce.specs.CacheTable.{Taken, if_idle, issue_row}
-use Rattle.bk_lce.proofs.Proper.{issue_is, command_is, fill_is}
+use Rattle.bk_lce.proofs.Proper.{Proper, issue_is, command_is, fill_is}
 use Rattle.bk_engine.specs.declared.parts.Choice.{Choice}
 use Rattle.bk_engine.specs.Core.{EngineState}
 use Rattle.bk_engine.specs.Kept.{IsSound}
@@ -34,6 +34,7 @@ use Rattle.bk_bridge.specs.Ranges.{IsInside, InRange}
 use Rattle.bk_bridge.proofs.Formed.{cond-all, put-all}
 use Rattle.bk_bridge.proofs.Fronts.{source-of}
 use Rattle.bk_bridge.proofs.Inside.{directory-inside}
+use Rattle.bk_bridge.proofs.Outside.{taken-outside, command-outside, fill-outside, outcome-outside}
 
 some-ways : (k : Shape) → InProfile k → 0 < k.ways
 some-ways k p = let least : 1 ≤ k.ways = leb-true 1 k.ways (and_parts (nat_le 1 k.ways) (nat_le k.ways 8) p.ways).0 in omega arith
@@ -92,22 +93,28 @@ module _ (k : Shape) where
 
   -- CACHES
 
-  taken-range : (n : State) (c : ℕ) (t : Taken) → InRange k n → ((m : Row) → t.sent ≡ Some m → IsWithin k m) → InRange k (with_taken n c t).state
+  -- what a cache of the configuration sends is in range
+  record TakenInRange (c : ℕ) (t : Taken) : Type 0 where
+    cache : c < k.caches
+    sent : (m : Row) → t.sent ≡ Some m → IsWithin k m
+
+  taken-range : (n : State) (c : ℕ) (t : Taken) → InRange k n → TakenInRange c t → InRange k (with_taken n c t).state
   taken-range n c t r w = record {
-    request = requests-within c t.sent n.request w r.request;
+    request = requests-within c t.sent n.request w.sent r.request;
     command = r.command;
-    response = responses-within c t.sent n.response w r.response;
-    fill = fills-within c t.sent n.fill w r.fill;
+    response = responses-within c t.sent n.response w.sent r.response;
+    fill = fills-within c t.sent n.fill w.sent r.fill;
     memout = r.memout;
     memin = r.memin;
+    outside = taken-outside k n c t w.cache w.sent r.outside;
     engine = r.engine;
     directory = r.directory;
   }
 
-  abbrev SendsWithin : Option Taken → Type 0
-  SendsWithin o = IfSome o (λ t. (m : Row) → t.sent ≡ Some m → IsWithin k m)
+  abbrev SendsWithin : ℕ → Option Taken → Type 0
+  SendsWithin c o = IfSome o (TakenInRange c)
 
-  row-range : (n p : State) (c : ℕ) (o : Option Taken) → InRange k n → InRange k p → SendsWithin o → InRange k (state_after_row n (takes p c o))
+  row-range : (n p : State) (c : ℕ) (o : Option Taken) → InRange k n → InRange k p → SendsWithin c o → InRange k (state_after_row n (takes p c o))
   row-range n p c None r q w = r
   row-range n p c (Some t) r q w = taken-range p c t q w
 
@@ -115,38 +122,40 @@ module _ (k : Shape) where
   below : (a b : ℕ) → nat_lt a b ≡ true → a < b
   below a b e = grind (arith, nat_tests)
 
-  idle-within : (b : Option InProgress) (t : Taken) → ((m : Row) → t.sent ≡ Some m → IsWithin k m) → SendsWithin (if_idle b t)
-  idle-within None t w = w
-  idle-within (Some busy) t w = tt
+  idle-within : (c : ℕ) (b : Option InProgress) (t : Taken) → TakenInRange c t → SendsWithin c (if_idle b t)
+  idle-within c None t w = w
+  idle-within c (Some busy) t w = tt
 
-  issue-within : (n : State) (c : ℕ) (op : Op) (way : ℕ) → SendsWithin (issue_taken k n c op way)
+  issue-within : (n : State) (c : ℕ) (op : Op) (way : ℕ) → SendsWithin c (issue_taken k n c op way)
   issue-within n c op way =
-      cond_both (nat_lt c k.caches && nat_lt way k.ways) (table.issue k (n.caches c) c op way) None SendsWithin
+      cond_both (nat_lt c k.caches && nat_lt way k.ways) (table.issue k (n.caches c) c op way) None (SendsWithin c)
       (λ e. let both = and_parts (nat_lt c k.caches) (nat_lt way k.ways) e in
-      idle-within (n.caches c).busy (issue_row k (n.caches c) c op way) (issue_is k (n.caches c) c (below c k.caches both.0) op way (below way k.ways both.1)).within)
+      let here : c < k.caches = below c k.caches both.0 in
+      idle-within c (n.caches c).busy (issue_row k (n.caches c) c op way)
+      (record { cache = here; sent = (issue_is k (n.caches c) c here op way (below way k.ways both.1)).within }))
       (λ e. tt)
 
-  may-be : (o : Option Taken) → ((t : Taken) → o ≡ Some t → (m : Row) → t.sent ≡ Some m → IsWithin k m) → SendsWithin o
-  may-be None h = tt
-  may-be (Some t) h = h t refl
+  proper-within : (c : ℕ) (o : Option Taken) → c < k.caches → ((t : Taken) → o ≡ Some t → Proper k c t) → SendsWithin c o
+  proper-within c None l h = tt
+  proper-within c (Some t) l h = record { cache = l; sent = (h t refl).within }
 
-  command_of-within : (n : State) (c : ℕ) (ms : List Row) → c < k.caches → AreWithin ms → SendsWithin (command_of k n c (first ms))
+  command_of-within : (n : State) (c : ℕ) (ms : List Row) → c < k.caches → AreWithin ms → SendsWithin c (command_of k n c (first ms))
   command_of-within n c [] l h = tt
   command_of-within n c (m ∷ ms) l h =
-      may-be (table.command k (n.caches c) c m) (λ t e. (command_is k (n.caches c) c l m (All-head (IsWithin k) m ms h) t e).within)
+      proper-within c (table.command k (n.caches c) c m) l (command_is k (n.caches c) c l m (All-head (IsWithin k) m ms h))
 
-  command-within : (n : State) (c : ℕ) → InRange k n → SendsWithin (command_taken k n c)
+  command-within : (n : State) (c : ℕ) → InRange k n → SendsWithin c (command_taken k n c)
   command-within n c r =
-      cond_both (nat_lt c k.caches) (command_of k n c (first (n.command c))) None SendsWithin
+      cond_both (nat_lt c k.caches) (command_of k n c (first (n.command c))) None (SendsWithin c)
       (λ e. command_of-within n c (n.command c) (below c k.caches e) (r.command c)) (λ e. tt)
 
-  fill_of-within : (n : State) (to : ℕ) (ms : List Row) → to < k.caches → SendsWithin (fill_of k n to (first ms))
+  fill_of-within : (n : State) (to : ℕ) (ms : List Row) → to < k.caches → SendsWithin to (fill_of k n to (first ms))
   fill_of-within n to [] l = tt
-  fill_of-within n to (m ∷ ms) l = may-be (table.fill k (n.caches to) to m) (λ t e. (fill_is k (n.caches to) to l m t e).within)
+  fill_of-within n to (m ∷ ms) l = proper-within to (table.fill k (n.caches to) to m) l (fill_is k (n.caches to) to l m)
 
-  fill-within : (n : State) (to from : ℕ) → SendsWithin (fill_taken k n to from)
+  fill-within : (n : State) (to from : ℕ) → SendsWithin to (fill_taken k n to from)
   fill-within n to from =
-      cond_both (nat_lt to k.caches && nat_lt from k.caches) (fill_of k n to (first (n.fill to from))) None SendsWithin
+      cond_both (nat_lt to k.caches && nat_lt from k.caches) (fill_of k n to (first (n.fill to from))) None (SendsWithin to)
       (λ e. fill_of-within n to (n.fill to from) (below to k.caches (and_parts (nat_lt to k.caches) (nat_lt from k.caches) e).0)) (λ e. tt)
 
   command-left : (n : State) (c : ℕ) → InRange k n → InRange k (without_command n c)
@@ -157,6 +166,7 @@ module _ (k : Shape) where
     fill = r.fill;
     memout = r.memout;
     memin = r.memin;
+    outside = command-outside k n c r.outside;
     engine = r.engine;
     directory = r.directory;
   }
@@ -170,6 +180,7 @@ module _ (k : Shape) where
         (put-all AreWithin (n.fill to) from _ (r.fill to) (All-drop (IsWithin k) 1 (n.fill to from) (r.fill to from)));
     memout = r.memout;
     memin = r.memin;
+    outside = fill-outside k n to from r.outside;
     engine = r.engine;
     directory = r.directory;
   }
@@ -197,6 +208,13 @@ module _ (k : Shape) where
     fill = r.fill;
     memout = All-drop (IsWithin k) 1 n.memout r.memout;
     memin = answered-within n.memory m n.memin r.memin;
+    outside = record {
+      request = r.outside.request;
+      command = r.outside.command;
+      response = r.outside.response;
+      fill_to = r.outside.fill_to;
+      fill_from = r.outside.fill_from;
+    };
     engine = r.engine;
     directory = r.directory;
   }
@@ -225,6 +243,7 @@ module _ (k : Shape) where
     fill = r.fill;
     memout = memout-within o.sent n.memout h.sent r.memout;
     memin = memin-within o.popped n.memin r.memin;
+    outside = outcome-outside k n o h.sent r.outside;
     engine = h.engine;
     directory = h.directory;
   }
@@ -276,6 +295,7 @@ opening-range k = record {
   fill = λ to from. All-nil (IsWithin k);
   memout = All-nil (IsWithin k);
   memin = All-nil (IsWithin k);
+  outside = record { request = λ c l. refl; command = λ c l. refl; response = λ c l. refl; fill_to = λ to from l. refl; fill_from = λ to from l. refl };
   engine = sound_new k;
   directory = λ c s w e. absurd (cc);
 }

@@ -1,10 +1,11 @@
 -- What each row of a cache's table leaves and sends is well formed.
-use Rattle.std.proofs.Common.{◌≡◌, ℕ, eqb, ◌&&◌, ◌∙◌, List, length, Option, Some, None, IfSome, length-set}
+use Rattle.std.proofs.Common.{◌≡◌, ℕ, eqb, ◌&&◌, ◌∙◌, List, [], ◌∷◌, ◌++◌, length, Option, Some, None, IfSome, option_to_list, length-set}
 use Rattle.bk_base.specs.Places.{Shape, IsAddr, block_of, word_of, group_of, tag_at}
 use Rattle.bk_base.specs.States.{is_writable, is_dirty}
 use Rattle.bk_base.specs.declared.coh.Coh.{Coh}
 use Rattle.bk_base.specs.declared.op.Op.{Op as Operation}
 use Rattle.bk_base.specs.declared.op.Op.TheVariants as ops
+use Rattle.bk_base.specs.declared.op.Done.{Done}
 use Rattle.bk_msg.specs.declared.row.Row.{Row}
 use Rattle.bk_msg.specs.declared.row.Row.TheVariants as rows
 use Rattle.bk_lce.specs.declared.line.Line.{Line}
@@ -14,7 +15,7 @@ use Rattle.bk_lce.specs.CacheTable as table
 use Rattle.bk_lce.specs.CacheTable.{Taken}
 use Rattle.bk_system.specs.State.{State}
 use Rattle.bk_system.specs.Events.{with_taken}
-use Rattle.bk_bridge.specs.Formed.{WellFormed, IsWhole}
+use Rattle.bk_bridge.specs.Formed.{WellFormed, IsWhole, AreAddressed}
 use Rattle.bk_lce.specs.Asked as asked
 use Rattle.bk_bridge.proofs.Places.{start_IsAddr}
 use Rattle.bk_bridge.proofs.Formed.{cond-all, put-all, guard, requests-formed, responses-formed, fills-formed, HaveEight, line-formed}
@@ -26,6 +27,13 @@ pub record FormedTaken (t : Taken) : Type 0 where
   pub lines : HaveEight t.state.lines
   pub busy : IsLawfulBusy t.state.busy
   pub sent : IfSome t.sent IsWhole
+  pub done : IfSome t.done (λ d. IsAddr (asked.address_of d.op))
+
+-- a history with the operation that completes
+longer : (ds : List Done) (o : Option Done) → AreAddressed ds → IfSome o (λ d. IsAddr (asked.address_of d.op)) → AreAddressed (ds ++ option_to_list o)
+longer [] None h g = tt
+longer [] (Some d) h g = (g, tt)
+longer (d ∷ ds) o h g = (h.0, longer ds o h.1 g)
 
 pub taken_keeps : (k : Shape) (n : State) (c : ℕ) (t : Taken) → WellFormed k n → FormedTaken t → WellFormed k (with_taken n c t).state
 taken_keeps k n c t f h = record {
@@ -38,6 +46,7 @@ taken_keeps k n c t f h = record {
   response = responses-formed c t.sent n.response h.sent f.response;
   memout = f.memout;
   memin = f.memin;
+  history = longer n.history t.done f.history h.done;
   engine = f.engine;
 }
 
@@ -50,38 +59,39 @@ pub record FormedCache (n : CacheState) : Type 0 where
 
 asks-formed : (n : CacheState) (op : Operation) (way : ℕ) (m : Row) → FormedCache n → IsAddr (asked.address_of op) → IsWhole m
     → FormedTaken (table.asks n op way m)
-asks-formed n op way m f a h = record { lines = f.lines; busy = a; sent = h }
+asks-formed n op way m f a h = record { lines = f.lines; busy = a; sent = h; done = tt }
 
 stored-eight : (line : Line) (addr value : ℕ) → length line.words ≡ 8 → length (table.stored line addr value).words ≡ 8
 stored-eight line addr value e = length-set line.words (word_of addr) value ∙ e
 
 load-formed : (k : Shape) (n : CacheState) (c addr way : ℕ) (o : Option ℕ) → FormedCache n → IsAddr addr
     → FormedTaken (table.load_row k n c addr way o)
-load-formed k n c addr way None f a = record { lines = f.lines; busy = a; sent = record { address = start_IsAddr addr a; block = tt } }
-load-formed k n c addr way (Some v) f a = record { lines = f.lines; busy = f.busy; sent = tt }
+load-formed k n c addr way None f a = asks-formed n (ops.Load addr) way _ f a (record { address = start_IsAddr addr a; block = tt })
+load-formed k n c addr way (Some v) f a = record { lines = f.lines; busy = f.busy; sent = tt; done = a }
 
 store-formed : (k : Shape) (n : CacheState) (c addr value way : ℕ) (o : Option ℕ) → FormedCache n → IsAddr addr
     → FormedTaken (table.store_row k n c addr value way o)
-store-formed k n c addr value way None f a = record { lines = f.lines; busy = a; sent = record { address = start_IsAddr addr a; block = tt } }
+store-formed k n c addr value way None f a = asks-formed n (ops.Store addr value) way _ f a (record { address = start_IsAddr addr a; block = tt })
 store-formed k n c addr value way (Some v) f a =
     cond-all FormedTaken (is_writable (line_at k n addr v).state) _ _
     (record {
       lines = line-formed n.lines (group_of k addr) v _ f.lines (stored-eight (line_at k n addr v) addr value (f.lines (group_of k addr) v));
       busy = f.busy;
       sent = tt;
+      done = a;
     })
-    (record { lines = f.lines; busy = a; sent = record { address = start_IsAddr addr a; block = tt } })
+    (asks-formed n (ops.Store addr value) v _ f a (record { address = start_IsAddr addr a; block = tt }))
 
 evict-formed : (n : CacheState) (c addr : ℕ) (o : Option ℕ) → FormedCache n → IsAddr addr → FormedTaken (table.evict_row n c addr o)
-evict-formed n c addr None f a = record { lines = f.lines; busy = f.busy; sent = tt }
-evict-formed n c addr (Some v) f a = record { lines = f.lines; busy = a; sent = record { address = start_IsAddr addr a; block = tt } }
+evict-formed n c addr None f a = record { lines = f.lines; busy = f.busy; sent = tt; done = a }
+evict-formed n c addr (Some v) f a = asks-formed n (ops.Evict addr) v _ f a (record { address = start_IsAddr addr a; block = tt })
 
 issue_row-formed : (k : Shape) (n : CacheState) (c : ℕ) (op : Operation) (way : ℕ) → FormedCache n → IsAddr (asked.address_of op)
     → FormedTaken (table.issue_row k n c op way)
 issue_row-formed k n c (ops.Load addr) way f a = load-formed k n c addr way (found k n addr) f a
 issue_row-formed k n c (ops.Store addr value) way f a = store-formed k n c addr value way (found k n addr) f a
-issue_row-formed k n c (ops.UcLoad addr) way f a = record { lines = f.lines; busy = a; sent = record { address = a; block = tt } }
-issue_row-formed k n c (ops.UcStore addr value) way f a = record { lines = f.lines; busy = a; sent = record { address = a; block = tt } }
+issue_row-formed k n c (ops.UcLoad addr) way f a = asks-formed n (ops.UcLoad addr) 0 _ f a (record { address = a; block = tt })
+issue_row-formed k n c (ops.UcStore addr value) way f a = asks-formed n (ops.UcStore addr value) 0 _ f a (record { address = a; block = tt })
 issue_row-formed k n c (ops.Evict addr) way f a = evict-formed n c addr (found k n addr) f a
 
 idle-formed : (o : Option Begun) (t : Taken) → FormedTaken t → IfSome (table.if_idle o t) FormedTaken
@@ -112,6 +122,7 @@ flush-formed k n c addr state (Some v) f a = record {
   lines = lowered-eight k n addr v state f.lines;
   busy = f.busy;
   sent = flush_answer-whole c addr (line_at k n addr v) a (f.lines (group_of k addr) v);
+  done = tt;
 }
 
 transfer-formed : (k : Shape) (n : CacheState) (c addr : ℕ) (state : Coh) (peer peer_way : ℕ) (peer_state : Coh) (o : Option ℕ) → FormedCache n
@@ -123,28 +134,34 @@ transfer-formed k n c addr state peer peer_way peer_state (Some v) f a =
       lines = lowered-eight k n addr v state f.lines;
       busy = f.busy;
       sent = record { address = start_IsAddr addr a; block = f.lines (group_of k addr) v };
+      done = tt;
     })
 
 -- MESSAGES THAT COMPLETE THE OPERATION IN PROGRESS
 
-completes-formed : (n : CacheState) (c : ℕ) (op : Operation) (addr answer way : ℕ) → HaveEight n.lines → IsAddr addr
-    → FormedTaken (table.completes n c op addr answer way)
-completes-formed n c op addr answer way f a = record { lines = f; busy = tt; sent = record { address = start_IsAddr addr a; block = tt } }
+completes-formed : (n : CacheState) (c : ℕ) (op : Operation) (answer way : ℕ) → HaveEight n.lines → IsAddr (asked.address_of op)
+    → FormedTaken (table.completes n c op (asked.address_of op) answer way)
+completes-formed n c op answer way f a =
+    record { lines = f; busy = tt; sent = record { address = start_IsAddr (asked.address_of op) a; block = tt }; done = a }
 
-fills_line-formed : (k : Shape) (n : CacheState) (c : ℕ) (op : Operation) (addr answer v : ℕ) (line : Line) → HaveEight n.lines → IsAddr addr
-    → length line.words ≡ 8
-    → FormedTaken (table.fills k n c op addr answer v line)
-fills_line-formed k n c op addr answer v line f a e =
-    record { lines = line-formed n.lines (group_of k addr) v line f e; busy = tt; sent = record { address = start_IsAddr addr a; block = tt } }
+fills_line-formed : (k : Shape) (n : CacheState) (c : ℕ) (op : Operation) (answer v : ℕ) (line : Line) → HaveEight n.lines
+    → IsAddr (asked.address_of op) → length line.words ≡ 8
+    → FormedTaken (table.fills k n c op (asked.address_of op) answer v line)
+fills_line-formed k n c op answer v line f a e = record {
+  lines = line-formed n.lines (group_of k (asked.address_of op)) v line f e;
+  busy = tt;
+  sent = record { address = start_IsAddr (asked.address_of op) a; block = tt };
+  done = a;
+}
 
 grant-formed : (k : Shape) (n : CacheState) (c way : ℕ) (state : Coh) (addr : ℕ) (words : List ℕ) (op : Operation) → HaveEight n.lines
     → IsAddr (asked.address_of op) → length words ≡ 8
     → IfSome (table.grant_row k n c way state addr words op) FormedTaken
 grant-formed k n c way state addr words (ops.Load at) f a e =
-    guard FormedTaken (eqb (block_of at) (block_of addr)) _ (fills_line-formed k n c (ops.Load at) at _ way _ f a e)
+    guard FormedTaken (eqb (block_of at) (block_of addr)) _ (fills_line-formed k n c (ops.Load at) _ way _ f a e)
 grant-formed k n c way state addr words (ops.Store at value) f a e =
     guard FormedTaken (eqb (block_of at) (block_of addr) && is_writable state) _
-    (fills_line-formed k n c (ops.Store at value) at 0 way _ f a
+    (fills_line-formed k n c (ops.Store at value) 0 way _ f a
     (stored-eight (record { tag = tag_at k at; state = state; words = words }) at value e))
 grant-formed k n c way state addr words (ops.UcLoad at) f a e = tt
 grant-formed k n c way state addr words (ops.UcStore at value) f a e = tt
@@ -160,7 +177,7 @@ wake-formed : (k : Shape) (n : CacheState) (c way addr : ℕ) (op : Operation) �
     → IfSome (table.wake_row k n c way addr op) FormedTaken
 wake-formed k n c way addr (ops.Store at value) f a =
     guard FormedTaken (eqb (block_of at) (block_of addr) && holds (line_at k n at way) (tag_at k at)) _
-    (fills_line-formed k n c (ops.Store at value) at 0 way _ f a (stored-eight (line_at k n at way) at value (f (group_of k at) way)))
+    (fills_line-formed k n c (ops.Store at value) 0 way _ f a (stored-eight (line_at k n at way) at value (f (group_of k at) way)))
 wake-formed k n c way addr (ops.Load at) f a = tt
 wake-formed k n c way addr (ops.UcLoad at) f a = tt
 wake-formed k n c way addr (ops.UcStore at value) f a = tt
@@ -179,7 +196,7 @@ ends-formed (Some b) row a h = h b.way b.op a
 
 word-formed : (n : CacheState) (c way addr word : ℕ) (op : Operation) → HaveEight n.lines → IsAddr (asked.address_of op)
     → IfSome (table.word_row n c way addr word op) FormedTaken
-word-formed n c way addr word (ops.UcLoad at) f a = guard FormedTaken (eqb at addr) _ (completes-formed n c (ops.UcLoad at) at word way f a)
+word-formed n c way addr word (ops.UcLoad at) f a = guard FormedTaken (eqb at addr) _ (completes-formed n c (ops.UcLoad at) word way f a)
 word-formed n c way addr word (ops.Load at) f a = tt
 word-formed n c way addr word (ops.Store at value) f a = tt
 word-formed n c way addr word (ops.UcStore at value) f a = tt
@@ -188,7 +205,7 @@ word-formed n c way addr word (ops.Evict at) f a = tt
 written-formed : (n : CacheState) (c way addr : ℕ) (op : Operation) → HaveEight n.lines → IsAddr (asked.address_of op)
     → IfSome (table.written_row n c way addr op) FormedTaken
 written-formed n c way addr (ops.UcStore at value) f a =
-    guard FormedTaken (eqb at addr) _ (completes-formed n c (ops.UcStore at value) at 0 way f a)
+    guard FormedTaken (eqb at addr) _ (completes-formed n c (ops.UcStore at value) 0 way f a)
 written-formed n c way addr (ops.Load at) f a = tt
 written-formed n c way addr (ops.Store at value) f a = tt
 written-formed n c way addr (ops.UcLoad at) f a = tt
@@ -197,7 +214,7 @@ written-formed n c way addr (ops.Evict at) f a = tt
 evicted-formed : (n : CacheState) (c way addr : ℕ) (op : Operation) → HaveEight n.lines → IsAddr (asked.address_of op)
     → IfSome (table.evicted_row n c way addr op) FormedTaken
 evicted-formed n c way addr (ops.Evict at) f a =
-    guard FormedTaken (eqb (block_of at) (block_of addr)) _ (completes-formed n c (ops.Evict at) at 0 way f a)
+    guard FormedTaken (eqb (block_of at) (block_of addr)) _ (completes-formed n c (ops.Evict at) 0 way f a)
 evicted-formed n c way addr (ops.Load at) f a = tt
 evicted-formed n c way addr (ops.Store at value) f a = tt
 evicted-formed n c way addr (ops.UcLoad at) f a = tt
@@ -209,6 +226,7 @@ command-formed k n c (rows.Inv _ _ addr) f h = record {
       (λ w. wiped-eight (n.lines (group_of k addr)) (tag_at k addr) w (f.lines (group_of k addr) w));
   busy = f.busy;
   sent = record { address = start_IsAddr addr h.address; block = tt };
+  done = tt;
 }
 command-formed k n c (rows.StWb _ _ state addr) f h = flush-formed k n c addr state (found k n addr) f h.address
 command-formed k n c (rows.StTr _ _ state peer peer_way peer_state addr) f h =

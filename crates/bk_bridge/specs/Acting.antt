@@ -9,19 +9,34 @@ use Rattle.bk_msg.specs.declared.row.Row.{Row}
 use Rattle.bk_engine.specs.declared.parts.Core.{Core}
 use Rattle.bk_engine.specs.declared.parts.Held.{Held}
 use Rattle.bk_engine.specs.declared.parts.Kept.{Kept}
+use Rattle.bk_engine.specs.declared.parts.RequestKind.{RequestKind}
+use Rattle.bk_engine.specs.declared.parts.RequestKind.TheVariants as kinds
 use Rattle.bk_machine.specs.Actions.{Action, Takes, Settles, CollectsAck, CollectsAnswer, CollectsBlock, Invalidates, FlushesVictim, FlushesOwn, FlushesOwner, WritesBack, ReadsMemory, WritesWord, GrantsByBlock, GrantsByWake, GrantsByTransfer, AnswersWord, AnswersStore, AnswersEvict, PaysRequester, PaysOwner, Finishes, Idles, action_after, sent_to}
 use Rattle.bk_machine.specs.Directory as machine
 use Rattle.bk_machine.specs.Entries.{with_state}
-use Rattle.bk_machine.specs.Messages.{Request, Response, InvAck, CohAck, Block, answer_of, request_tag, request_way}
+use Rattle.bk_machine.specs.Messages.{Request, Rd, Wr, UcRd, UcWr, EvictRequest, Response, InvAck, CohAck, Block, answer_of, request_way}
 use Rattle.bk_machine.specs.Products.{words_of, as_request, as_response, as_block}
 use Rattle.bk_machine.specs.Transactions.{Debt, Transaction, fresh}
 use Rattle.bk_machine.specs.World.{World}
 use Rattle.bk_bridge.specs.Effects.{own_place, owner_place, done_by, pops_head}
 
--- the transaction is for the request that the engine holds
+-- THE REQUEST
+
+-- the machine's request of a request that the engine holds
+abbrev pub request_by : Shape → RequestKind → Held → Request
+request_by k kinds.Rd h = Rd (tag_at k h.addr) h.way
+request_by k kinds.Wr h = Wr (tag_at k h.addr) h.way
+request_by k kinds.UcRd h = UcRd (tag_at k h.addr) (word_of h.addr)
+request_by k kinds.UcWr h = UcWr (tag_at k h.addr) (word_of h.addr) h.value
+request_by k kinds.Evict h = EvictRequest (tag_at k h.addr) h.way
+
+abbrev pub request_for : Shape → Held → Request
+request_for k h = request_by k h.kind h
+
+-- The transaction is for the request that the engine holds. (An uncached request names no way, so the way is a fact of its own: 0.)
 pub record Serves (k : Shape) (h : Held) (x : Transaction) : Type 0 where
   pub cache : x.cache ≡ h.source
-  pub tag : request_tag x.request ≡ tag_at k h.addr
+  pub request : x.request ≡ request_for k h
   pub way : request_way x.request ≡ h.way
 
 -- FLUSHES, GRANTS AND ANSWERS: what each needs, if it is there

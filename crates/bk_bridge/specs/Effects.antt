@@ -172,3 +172,14 @@ PopsDo = (k : Shape) (program : List Form) (n : State) (x : Option (ℕ × Trans
     → WellFormed k n → HoldsFront k n → slice_get program n.engine.core.place ≡ Some (forms.Popq wp) → n.engine.core.head ≡ Some head
     → can_run k program n choice ≡ true
     → world_of k (after k program n (Engine choice)) x ≡ pops_head k (wp == 1) head.choice.source head.message (world_of k n x)
+
+-- what neither reads the transaction nor changes it
+abbrev pub LeavesTransaction : (World → World) → Type 0
+LeavesTransaction does = (w : World) (x : Option (ℕ × Transaction)) → does (record w { transaction = x }) ≡ record (does w) { transaction = x }
+
+-- so do both tables
+abbrev pub InstructionsAside : Type 0
+InstructionsAside = (k : Shape) (e : Core) (f : Form) → LeavesTransaction (done_by k e f)
+
+abbrev pub PopsAside : Type 0
+PopsAside = (k : Shape) (wp : Bool) (c : ℕ) (m : Row) → LeavesTransaction (pops_head k wp c m)

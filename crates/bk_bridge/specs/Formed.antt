@@ -1,7 +1,9 @@
 -- What each state has that a run comes to, as far as the machine's view rests on it: messages stand in the channels of their own
--- networks, blocks have eight words, and addresses are those of words.
+-- networks, blocks have eight words, addresses are those of words, and the engine has four flags.
 use Rattle.std.specs.Prelude.{◌≡◌, ◌<◌, ℕ, List, [], ◌∷◌, length, IfSome}
 use Rattle.bk_base.specs.Places.{Shape, InProfile, IsAddr, tag_limit}
+use Rattle.bk_base.specs.declared.op.Done.{Done}
+use Rattle.bk_isa.specs.declared.form.Form.{Form}
 use Rattle.bk_msg.specs.declared.row.Row.{Row}
 use Rattle.bk_msg.specs.declared.row.Row.TheVariants as rows
 use Rattle.bk_msg.specs.declared.row.Network.{Network}
@@ -10,23 +12,9 @@ use Rattle.bk_msg.specs.Networks.{network_of, address_of}
 use Rattle.bk_lce.specs.Asked as asked
 use Rattle.bk_engine.specs.Core.{EngineState}
 use Rattle.bk_system.specs.declared.event.Event.{Event}
-use Rattle.bk_system.specs.declared.event.Event.TheVariants as events
-use Rattle.bk_system.specs.State.{State}
-
--- EVENTS
-
--- An event as the product's types have it: an operation's address is below 2^40 and a multiple of 8. (Nothing here wants a bound
--- on values.)
-abbrev pub IsLawful : Event → Type 0
-IsLawful (events.Issue c op way) = IsAddr (asked.address_of op)
-IsLawful (events.Command c) = Unit {0}
-IsLawful (events.Fill to from) = Unit {0}
-IsLawful events.Memory = Unit {0}
-IsLawful (events.Engine choice) = Unit {0}
-
-abbrev pub AreLawful : List Event → Type 0
-AreLawful [] = Unit {0}
-AreLawful (e ∷ es) = IsLawful e × AreLawful es
+use Rattle.bk_system.specs.State.{State, opening}
+use Rattle.bk_system.specs.Runs.{after, run_from}
+use Rattle.bk_system.specs.Lawful.{IsLawful, AreLawful}
 
 -- MESSAGES
 
@@ -53,15 +41,23 @@ abbrev pub AreOf : Network → List Row → Type 0
 AreOf network [] = Unit {0}
 AreOf network (m ∷ ms) = IsOf network m × AreOf network ms
 
+-- OPERATIONS
+
+-- each operation of a history is at a word's address
+abbrev pub AreAddressed : List Done → Type 0
+AreAddressed [] = Unit {0}
+AreAddressed (done ∷ later) = IsAddr (asked.address_of done.op) × AreAddressed later
+
 -- STATES
 
 -- The engine's own copies: the head that it looks at, the request that it holds, the block that it keeps for memory, the words that
--- memory has answered, and the tags of its directory.
+-- memory has answered, its flags, and the tags of its directory.
 pub record WellFormedEngine (k : Shape) (n : EngineState) : Type 0 where
   pub head : IfSome n.core.head (λ h. IsWhole h.message)
   pub held : IfSome n.core.held (λ h. IsAddr h.addr)
   pub dirty : IfSome n.core.dirty (λ d. IsAddr d.addr × (length d.words ≡ 8))
   pub got : IfSome n.core.got (λ words. length words ≡ 8)
+  pub flags : length n.core.flags ≡ 4
   pub entries : (c s w : ℕ) → (n.directory.entries c s w).tag < tag_limit k
 
 pub record WellFormed (k : Shape) (n : State) : Type 0 where
@@ -74,4 +70,18 @@ pub record WellFormed (k : Shape) (n : State) : Type 0 where
   pub response : (c : ℕ) → AreOf networks.Response (n.response c)
   pub memout : AreOf networks.Memout n.memout
   pub memin : AreOf networks.Memin n.memin
+  pub history : AreAddressed n.history
   pub engine : WellFormedEngine k n.engine
+
+-- THE STATEMENTS
+
+abbrev pub OpensFormed : Type 0
+OpensFormed = (k : Shape) → InProfile k → WellFormed k (opening k)
+
+-- each event leaves a well formed state, the engine's too, and so does each list of them
+abbrev pub EventsKeepForm : Type 0
+EventsKeepForm = (k : Shape) (program : List Form) (n : State) (e : Event) → WellFormed k n → IsLawful e → WellFormed k (after k program n e)
+
+abbrev pub RunsKeepForm : Type 0
+RunsKeepForm =
+    (k : Shape) (program : List Form) (n : State) (es : List Event) → WellFormed k n → AreLawful es → WellFormed k (run_from k program n es)

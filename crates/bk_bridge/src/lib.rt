@@ -5,4 +5,4 @@
 
 mod bridge;
 
-pub use bridge::{engine_actions, engine_effects, engine_readings, quiet_runs, reached_states};
+pub use bridge::{engine_actions, engine_effects, engine_readings, event_steps, reached_states};

@@ -16,12 +16,13 @@ use Rattle.bk_isa.specs.declared.form.Form.TheVariants.{Popq, Wde, Wds, Inv, Stw
 use Rattle.bk_msg.specs.declared.row.Row.{Row}
 use Rattle.bk_msg.specs.declared.row.Row.TheVariants as rows
 use Rattle.bk_msg.specs.declared.row.TheConstants.{ENGINE}
-use Rattle.bk_msg.specs.Networks.{address_of, receiver_of}
+use Rattle.bk_msg.specs.declared.row.Network.TheVariants as networks
+use Rattle.bk_msg.specs.Networks.{network_of, address_of, receiver_of}
 use Rattle.bk_dir.specs.declared.entry.Entry.{Entry}
 use Rattle.bk_dir.specs.declared.entry.Summary.{Summary}
 use Rattle.bk_dir.specs.Contents.{Contents, with_state, with_pending}
 use Rattle.bk_dir.specs.Laws.{Holds}
-use Rattle.bk_dir.specs.Summaries.{holds, has_bit, shares}
+use Rattle.bk_dir.specs.Summaries.{holds, has_bit, shares, is_other}
 use Rattle.bk_dir.proofs.SummaryLaws.{bits-law}
 use Rattle.bk_engine.specs.declared.parts.Choice.{Choice}
 use Rattle.bk_engine.specs.declared.parts.Head.{Head}
@@ -35,7 +36,7 @@ use Rattle.bk_engine.specs.Reads.{asked_of, summary_for}
 use Rattle.bk_engine.specs.Changes.{wiped, wiped_at, invalidates, state_written, named_written, directory_held, message_marked, head_marked, directory_after}
 use Rattle.bk_engine.specs.Sends.{is_owner, is_invalidated, inv_to, invs, sends_held, sends}
 use Rattle.bk_engine.specs.Stops.{wait_stop, form_stop, stop_at}
-use Rattle.bk_engine.specs.Laws.{is_marking, OnlyPopMarks, IsMarked, RequestMarks, CohAckMarks, writes_entries, OnlyFourWrite, count_to, InvSends, IsInvalidated, InvReaches, InvReachesOwner, HaltsForGood}
+use Rattle.bk_engine.specs.Laws.{is_marking, OnlyPopMarks, IsMarked, RequestMarks, ResponseMarks, BlockMarksNone, writes_entries, OnlyFourWrite, count_to, InvSends, IsInvalidated, InvReaches, InvReachesOwner, HaltsForGood}
 use Rattle.bk_engine.proofs.Outward.{owner-within}
 use Rattle.bk_engine.proofs.Wiping.{put-at, put-other}
 
@@ -80,13 +81,36 @@ marked k n head bit e m =
       others = λ h ne. ap (λ (x : Contents). x.pending h) after ∙ put-other n.directory.pending g bit h ne;
     }
 
-pub request_marks : RequestMarks
-request_marks k n head e i =
-    marked k n head true e (ap (λ (kind : ℕ). message_marked k n.directory kind head.message) i)
+request-marked : (k : Shape) (d : Contents) (m : Row) → network_of m ≡ networks.Request
+    → message_marked k d (head_number m) m ≡ with_pending d (group_of k (address_of m)) true
+request-marked k d (rows.Rd source to way addr) e = refl
+request-marked k d (rows.Wr source to way addr) e = refl
+request-marked k d (rows.UcRd source to addr) e = refl
+request-marked k d (rows.UcWr source to addr word) e = refl
+request-marked k d (rows.Evict source to way addr) e = refl
+request-marked k d m e = absurd (cc)
 
-pub coh_ack_marks : CohAckMarks
-coh_ack_marks k n head e i =
-    marked k n head false e (ap (λ (kind : ℕ). message_marked k n.directory kind head.message) i)
+pub request_marks : RequestMarks
+request_marks k n head e i = marked k n head true e (request-marked k n.directory head.message i)
+
+response-marked : (k : Shape) (d : Contents) (m : Row) → network_of m ≡ networks.Response
+    → message_marked k d (head_number m) m ≡ with_pending d (group_of k (address_of m)) false
+response-marked k d (rows.InvAck source to addr) e = refl
+response-marked k d (rows.CohAck source to addr) e = refl
+response-marked k d (rows.Wb source to addr words) e = refl
+response-marked k d (rows.NullWb source to addr) e = refl
+response-marked k d m e = absurd (cc)
+
+pub response_marks : ResponseMarks
+response_marks k n head e i = marked k n head false e (response-marked k n.directory head.message i)
+
+block-marked : (k : Shape) (d : Contents) (m : Row) → network_of m ≡ networks.Memin → message_marked k d (head_number m) m ≡ d
+block-marked k d (rows.Block source to addr words) e = refl
+block-marked k d m e = absurd (cc)
+
+pub block_marks_none : BlockMarksNone
+block_marks_none k n head e i =
+    ap (λ (o : Option Head). (head_marked k n.directory o).pending) e ∙ ap (λ (x : Contents). x.pending) (block-marked k n.directory head.message i)
 
 -- ENTRIES
 
@@ -187,32 +211,38 @@ not-asker : (o : Option (ℕ × ℕ)) (c : ℕ) → ((at : ℕ × ℕ) → o ≡
 not-asker None c h = refl
 not-asker (Some at) c h = ne_eqb c at.0 (λ e. h at refl (sym e))
 
--- the cache that asks is none of the others, nor the owner
-asker-not : (k : Shape) (d : Contents) (held : Held) (w : Bool) → held.source < k.caches → is_invalidated w (summary_for k d held) held.source ≡ false
-asker-not k d held w l =
+-- a cache that is none of the others nor, where it is asked for, the owner is sent none
+unsent : (k : Shape) (d : Contents) (held : Held) (w : Bool) (c : ℕ) → is_other k d (asked_of k held) c ≡ false
+    → (w && is_owner (summary_for k d held).owner c) ≡ false → (nat_lt c k.caches && is_invalidated w (summary_for k d held) c) ≡ false
+unsent k d held w c other owner =
     let s = summary_for k d held in
-    let bit : has_bit s.others held.source ≡ false =
-    bits-law k d (asked_of k held) held.source l
-    ∙ and_left (not (held.source == held.source)) (shares k d held.source (group_of k held.addr) (tag_at k held.addr))
-    (not_from_true (held.source == held.source) (eq-eqb held.source held.source refl)) in
-    or_from (has_bit s.others held.source) (w && is_owner s.owner held.source) bit
-    (and_right w (is_owner s.owner held.source) (not-asker s.owner held.source (λ at e. (owner-within k d (asked_of k held) at e).is_other)))
+    elim (cases_lt c k.caches) [
+      | inl l ↦ and_right (nat_lt c k.caches) (is_invalidated w s c)
+          (or_from (has_bit s.others c) (w && is_owner s.owner c) (bits-law k d (asked_of k held) c l ∙ other) owner)
+      | inr g ↦ and_left (nat_lt c k.caches) (is_invalidated w s c) (le-ltb c k.caches g)
+    ]
 
-asker-uncounted : (k : Shape) (d : Contents) (held : Held) (w : Bool)
+-- nor is the cache that asks, which is none of them
+asker-unsent : (k : Shape) (d : Contents) (held : Held) (w : Bool)
     → (nat_lt held.source k.caches && is_invalidated w (summary_for k d held) held.source) ≡ false
-asker-uncounted k d held w = elim (cases_lt held.source k.caches) [
-  | inl l ↦ and_right (nat_lt held.source k.caches) (is_invalidated w (summary_for k d held) held.source) (asker-not k d held w l)
-  | inr g ↦ and_left (nat_lt held.source k.caches) (is_invalidated w (summary_for k d held) held.source) (le-ltb held.source k.caches g)
-]
+asker-unsent k d held w =
+    let s = summary_for k d held in
+    unsent k d held w held.source
+    (and_left (not (held.source == held.source)) (shares k d held.source (group_of k held.addr) (tag_at k held.addr))
+    (not_from_true (held.source == held.source) (eq-eqb held.source held.source refl)))
+    (and_right w (is_owner s.owner held.source) (not-asker s.owner held.source (λ at e. (owner-within k d (asked_of k held) at e).is_other)))
 
 pub inv_sends : InvSends
 inv_sends k n held a e =
     let s = summary_for k n.directory held in
     let list : sends k n (Inv a) ≡ invs k held (a == 1) s = inv-list k n held a e in
+    let count : (c : ℕ) → (nat_lt c k.caches && is_invalidated (a == 1) s c) ≡ false → count_to c (sends k n (Inv a)) ≡ 0 = λ c i.
+    ap (λ xs. count_to c xs) list ∙ counts-below held (a == 1) s c k.caches
+    ∙ cond-false (nat_lt c k.caches && is_invalidated (a == 1) s c) 1 0 i in
     record {
       each = subst (λ xs. All (λ m. m ≡ rows.Inv ENGINE (receiver_of m) (block_start held.addr)) xs) (sym list) (each-of held (a == 1) s k.caches);
-      asker = ap (λ xs. count_to held.source xs) list ∙ counts-below held (a == 1) s held.source k.caches
-          ∙ cond-false (nat_lt held.source k.caches && is_invalidated (a == 1) s held.source) 1 0 (asker-uncounted k n.directory held (a == 1));
+      asker = count held.source (asker-unsent k n.directory held (a == 1));
+      nobody_else = λ c other owner. count c (unsent k n.directory held (a == 1) c other owner);
     }
 
 -- a wiped entry doesn't hold the block

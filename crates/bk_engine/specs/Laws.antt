@@ -1,12 +1,13 @@
 -- What the instructions mean for the directory and the caches.
-use Rattle.std.specs.Prelude.{◌≡◌, ◌≢◌, ℕ, ◌<◌, Bool, true, false, ◌==◌, List, Option, Some, All, count_by}
+use Rattle.std.specs.Prelude.{◌≡◌, ◌≢◌, ℕ, ◌<◌, Bool, true, false, ◌==◌, ◌&&◌, List, Option, Some, All, count_by}
 use Rattle.bk_base.specs.Places.{Shape, block_start, group_of, tag_at}
 use Rattle.bk_isa.specs.declared.form.Form.{Form}
 use Rattle.bk_isa.specs.declared.form.Form.TheVariants.{Popq, Wde, Wds, Inv, Stwb}
 use Rattle.bk_msg.specs.declared.row.Row.{Row}
 use Rattle.bk_msg.specs.declared.row.Row.TheVariants as rows
 use Rattle.bk_msg.specs.declared.row.TheConstants.{ENGINE}
-use Rattle.bk_msg.specs.Networks.{address_of, receiver_of}
+use Rattle.bk_msg.specs.declared.row.Network.TheVariants as networks
+use Rattle.bk_msg.specs.Networks.{network_of, address_of, receiver_of}
 use Rattle.bk_dir.specs.Laws.{Holds}
 use Rattle.bk_dir.specs.Summaries.{is_other}
 use Rattle.bk_engine.specs.declared.parts.Choice.{Choice}
@@ -15,10 +16,9 @@ use Rattle.bk_engine.specs.declared.parts.Held.{Held}
 use Rattle.bk_engine.specs.declared.stop.Halt.{Halt}
 use Rattle.bk_engine.specs.declared.stop.Stop.TheVariants.{Halts}
 use Rattle.bk_engine.specs.Core.{EngineState}
-use Rattle.bk_engine.specs.Heads.{head_number}
 use Rattle.bk_engine.specs.Reads.{asked_of, summary_for}
 use Rattle.bk_engine.specs.Changes.{directory_after}
-use Rattle.bk_engine.specs.Sends.{sends}
+use Rattle.bk_engine.specs.Sends.{is_owner, sends}
 use Rattle.bk_engine.specs.Stops.{stop_of}
 
 -- PENDING BITS
@@ -39,11 +39,16 @@ pub record IsMarked (k : Shape) (n : EngineState) (head : Head) (bit : Bool) : T
 
 -- a request that is popped makes its group pending
 abbrev pub RequestMarks : Type 0
-RequestMarks = (k : Shape) (n : EngineState) (head : Head) → n.core.head ≡ Some head → head_number head.message ≡ 1 → IsMarked k n head true
+RequestMarks = (k : Shape) (n : EngineState) (head : Head) → n.core.head ≡ Some head → network_of head.message ≡ networks.Request → IsMarked k n head true
 
--- a CohAck that is popped ends that
-abbrev pub CohAckMarks : Type 0
-CohAckMarks = (k : Shape) (n : EngineState) (head : Head) → n.core.head ≡ Some head → head_number head.message ≡ 3 → IsMarked k n head false
+-- a response that is popped, InvAck, CohAck, Wb or NullWb, ends that
+abbrev pub ResponseMarks : Type 0
+ResponseMarks = (k : Shape) (n : EngineState) (head : Head) → n.core.head ≡ Some head → network_of head.message ≡ networks.Response → IsMarked k n head false
+
+-- a Block that is popped changes no pending bit
+abbrev pub BlockMarksNone : Type 0
+BlockMarksNone = (k : Shape) (n : EngineState) (head : Head) → n.core.head ≡ Some head → network_of head.message ≡ networks.Memin
+    → (directory_after k n (Popq 1)).pending ≡ n.directory.pending
 
 -- ENTRIES
 
@@ -64,10 +69,13 @@ OnlyFourWrite = (k : Shape) (n : EngineState) (f : Form) → writes_entries f �
 abbrev pub count_to : ℕ → List Row → ℕ
 count_to c messages = count_by (λ m. receiver_of m == c) messages
 
--- `inv` sends invalidations of the request's block alone, each once, and none to the cache that asks
+-- `inv` sends invalidations of the request's block alone, and none to the cache that asks, nor to any that has no entry S of the block
+-- and, with `o`, isn't the owner
 pub record IsInvalidation (k : Shape) (n : EngineState) (held : Held) (a : ℕ) : Type 0 where
   pub each : All (λ m. m ≡ rows.Inv ENGINE (receiver_of m) (block_start held.addr)) (sends k n (Inv a))
   pub asker : count_to held.source (sends k n (Inv a)) ≡ 0
+  pub nobody_else : (c : ℕ) → is_other k n.directory (asked_of k held) c ≡ false → (a == 1 && is_owner (summary_for k n.directory held).owner c) ≡ false
+      → count_to c (sends k n (Inv a)) ≡ 0
 
 abbrev pub InvSends : Type 0
 InvSends = (k : Shape) (n : EngineState) (held : Held) (a : ℕ) → n.core.held ≡ Some held → IsInvalidation k n held a

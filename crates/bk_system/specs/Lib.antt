@@ -2,6 +2,7 @@ pub mod Banks
 pub mod Channels
 pub mod Events
 pub mod Kept
+pub mod Lawful
 pub mod Memory
 pub mod Queues
 pub mod Rooms

@@ -1,5 +1,5 @@
 -- The laws, as they are proved in InstructionLaws.
-use Rattle.bk_engine.proofs.InstructionLaws.{only_pop_marks, request_marks, coh_ack_marks, only_four_write, inv_sends, inv_reaches, inv_reaches_owner, halts_for_good}
+use Rattle.bk_engine.proofs.InstructionLaws.{only_pop_marks, request_marks, response_marks, block_marks_none, only_four_write, inv_sends, inv_reaches, inv_reaches_owner, halts_for_good}
 use Rattle.bk_engine.proofs.laws.laws.Goals as goal
 
 pub returns-clause-only_pop_marks : goal.returns-clause-only_pop_marks
@@ -8,8 +8,11 @@ returns-clause-only_pop_marks c = only_pop_marks
 pub returns-clause-request_marks : goal.returns-clause-request_marks
 returns-clause-request_marks c = request_marks
 
-pub returns-clause-coh_ack_marks : goal.returns-clause-coh_ack_marks
-returns-clause-coh_ack_marks c = coh_ack_marks
+pub returns-clause-response_marks : goal.returns-clause-response_marks
+returns-clause-response_marks c = response_marks
+
+pub returns-clause-block_marks_none : goal.returns-clause-block_marks_none
+returns-clause-block_marks_none c = block_marks_none
 
 pub returns-clause-only_four_write : goal.returns-clause-only_four_write
 returns-clause-only_four_write c = only_four_write

@@ -1,6 +1,6 @@
 use Rattle.bk_bridge.proofs.Opening.{opens_empty}
-use Rattle.bk_bridge.proofs.Law.{event_step, reached-step, run-is, run-from_opening}
-use Rattle.bk_bridge.proofs.bridge.quiet_runs.Goals as goal
+use Rattle.bk_bridge.proofs.Steps.{event_step, reached-step}
+use Rattle.bk_bridge.proofs.bridge.event_steps.Goals as goal
 
 pub returns-clause-opens_empty : goal.returns-clause-opens_empty
 returns-clause-opens_empty c = opens_empty
@@ -10,9 +10,3 @@ returns-clause-steps c = event_step
 
 pub returns-clause-reached : goal.returns-clause-reached
 returns-clause-reached c = reached-step
-
-pub returns-clause-runs : goal.returns-clause-runs
-returns-clause-runs c = run-is
-
-pub returns-clause-whole : goal.returns-clause-whole
-returns-clause-whole c = run-from_opening
