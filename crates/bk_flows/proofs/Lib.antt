@@ -1,0 +1,16 @@
+pub mod Masks
+pub mod Flags
+pub mod Queues
+pub mod Small
+pub mod Branches
+pub mod Waits
+pub mod Pops
+pub mod Halts
+pub mod Sent
+pub mod Entries
+pub mod Wiped
+pub mod Listed
+pub mod Flushes
+pub mod Invs
+pub mod Closings
+pub mod ByForm
