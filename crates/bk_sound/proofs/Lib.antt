@@ -1,0 +1,5 @@
+mod Follows
+mod Images
+mod Acts
+mod Certifies
+pub mod Stays

@@ -1,4 +1,7 @@
-//! The main theorems. So far: the law of the abstract protocol.
+//! The main theorems: every image of microcode that is certified is coherent in every run; and the law of the abstract protocol.
 #![tactic(auto)]
 
+mod certified;
 pub mod laws;
+
+pub use certified::{Certified, Refused, certify};

@@ -1,0 +1,12 @@
+pub mod Writers
+pub mod Values
+pub mod Pending
+pub mod Claims
+pub mod Traffic
+pub mod Waits
+pub mod Resting
+pub mod Tied
+pub mod Runs
+pub mod Phases
+pub mod Stuck
+pub mod Cases

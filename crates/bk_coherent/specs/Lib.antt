@@ -1,0 +1,4 @@
+pub mod Coherent
+pub mod Examples
+pub mod Traffic
+pub mod Statements
