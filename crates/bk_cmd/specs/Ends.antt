@@ -3,10 +3,10 @@ use Rattle.std.specs.Prelude.{◌≡◌, ℕ, ◌⊎◌, List, [], Option, Strin
 use Rattle.std.specs.Global.{Global}
 use Rattle.bk_lce.specs.declared.line.WayView.{WayView}
 use Rattle.bk_cmd.specs.declared.outcome.Outcome.{Outcome}
-use Rattle.bk_cmd.specs.Answers.{Due, Refuses}
+use Rattle.bk_cmd.specs.Answers.{Due}
 use Rattle.bk_cmd.specs.Inputs.{Files}
 use Rattle.bk_cmd.specs.Replays.{OfInputs, AreEvents, EndsShort, Reported, ReportedPart}
-use Rattle.bk_cmd.specs.Stops.{Says, IsBad}
+use Rattle.bk_cmd.specs.Stops.{Says, IsRefused, IsBad}
 use Rattle.bk_cmd.specs.Words.{Command, Replay, command_of}
 use Rattle.bk_cmd.specs.Writes.{Wrote, WrotePart}
 
@@ -30,9 +30,9 @@ abbrev pub EndsInPart : (List WayView → ℕ → Type 0) → Files → Command 
 EndsInPart policy files (Replay output image trace) o before after = OfInputs files image trace (λ i t. ReportedPart policy output i t o before after)
 EndsInPart policy files command o before after = SaysText files command (λ text. WrotePart text o before after)
 
--- status 3: the refusal is the verdict on the file
+-- status 3: the refusal is the verdict on the image
 abbrev pub EndsRefused : Files → Command → Outcome → Type 0
-EndsRefused files command o = IsSomeAnd o.refusal (λ refusal. Says files command (Refuses refusal.at refusal.obligation))
+EndsRefused files command o = IsSomeAnd o.refusal (λ refusal. IsRefused files command refusal.at refusal.obligation)
 
 -- status 4, and 8 where a list of the file is over its limit: the file has this fault
 abbrev pub EndsBad : Files → Command → Outcome → Type 0

@@ -3,6 +3,7 @@ use Rattle.std.specs.Prelude.{◌≡◌, ℕ, List, Option, Some, Result, Ok, If
 use Rattle.bk_image.specs.Faults.{Bad}
 use Rattle.bk_image.specs.Images as images
 use Rattle.bk_image.specs.Reading.{image_at}
+use Rattle.bk_check.specs.Accepted.{Accepted}
 use Rattle.bk_trace.specs.Traces as traces
 use Rattle.bk_trace.specs.Faults as trace_faults
 use Rattle.bk_trace.specs.Reading.{trace_at}
@@ -25,8 +26,9 @@ ImageIs files name answer = FileHolds files name (λ bytes. image_at bytes ≡ a
 abbrev pub TraceIs : Files → List ℕ → Result traces.Parts trace_faults.Bad → Type 0
 TraceIs files name answer = FileHolds files name (λ bytes. trace_at bytes ≡ answer)
 
--- a trace is read only after an image
+-- a trace is read only after an image that is accepted
 pub record AfterImage (files : Files) (name : List ℕ) (Next : Type 0) : Type 0 where
   pub image : images.Parts
   pub image_is : ImageIs files name (Ok image)
+  pub accepted : Accepted image
   pub next : Next

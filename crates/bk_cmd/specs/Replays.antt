@@ -1,9 +1,11 @@
 -- How a replay ends, once its files are read. The policy is the relation between the views of a set and the way of a victim.
 use Rattle.std.specs.Prelude.{◌≡◌, ℕ, ◌⊎◌, List, [], ◌++◌, length, Bool, true, false, Option, Ok}
 use Rattle.bk_image.specs.Images as images
+use Rattle.bk_check.specs.Accepted.{Accepted}
 use Rattle.bk_trace.specs.Traces as traces
 use Rattle.bk_lce.specs.declared.line.WayView.{WayView}
 use Rattle.bk_system.specs.declared.event.Event.{Event}
+use Rattle.bk_coherent.specs.Coherent.{StaysCoherent}
 use Rattle.bk_run.specs.Greedy.{budget_of}
 use Rattle.bk_run.specs.Serial.{IsEnded, IsSpent}
 use Rattle.bk_run.specs.Report.{IsReport}
@@ -16,11 +18,12 @@ use Rattle.bk_cmd.specs.declared.words.Output.TheVariants.{Report, LogAndReport}
 use Rattle.bk_cmd.specs.Inputs.{Files, ImageIs, TraceIs}
 use Rattle.bk_cmd.specs.Writes.{Wrote, WrotePart}
 
--- The files are an image and a trace, and of these something holds.
+-- The files are an image that is accepted, and a trace; and of these something holds.
 pub record OfInputs (files : Files) (image_name trace_name : List ℕ) (Holds : images.Parts → traces.Parts → Type 0) : Type 0 where
   pub image : images.Parts
   pub trace : traces.Parts
   pub image_is : ImageIs files image_name (Ok image)
+  pub accepted : Accepted image
   pub trace_is : TraceIs files trace_name (Ok trace)
   pub holds : Holds image trace
 
@@ -59,16 +62,18 @@ pub record IsDue (output : Output) (image : images.Parts) (trace : traces.Parts)
   pub is_report : IsReport trace.config image.instrs trace.lines events report
   pub whole : text ≡ log_due output image trace events ++ report
 
--- The run is complete, and all that is due of it was taken.
+-- The run is complete, it was coherent after each of its events, and all that is due of it was taken.
 pub record Reported (policy : List WayView → ℕ → Type 0) (output : Output) (image : images.Parts) (trace : traces.Parts) (o : Outcome) (before after : Option (List ℕ)) : Type 0 where
   pub ended : RunEnds policy image trace o.events.items true
+  pub coherent : StaysCoherent trace.config image.instrs o.events.items
   pub text : List ℕ
   pub is_due : IsDue output image trace o.events.items text
   pub wrote : Wrote text o before after
 
--- The run is complete, and not all that is due of it was taken.
+-- The same, and not all that is due of it was taken.
 pub record ReportedPart (policy : List WayView → ℕ → Type 0) (output : Output) (image : images.Parts) (trace : traces.Parts) (o : Outcome) (before after : Option (List ℕ)) : Type 0 where
   pub ended : RunEnds policy image trace o.events.items true
+  pub coherent : StaysCoherent trace.config image.instrs o.events.items
   pub text : List ℕ
   pub is_due : IsDue output image trace o.events.items text
   pub wrote : WrotePart text o before after

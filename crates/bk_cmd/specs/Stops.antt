@@ -4,9 +4,10 @@ use Rattle.std.specs.Global.{Vec}
 use Rattle.bk_outer.specs.declared.shelf.TheConstants.{FILE_LIMIT}
 use Rattle.bk_image.specs.Faults as faults
 use Rattle.bk_image.specs.Images as images
+use Rattle.bk_image.specs.Reading.{image_at}
 use Rattle.bk_trace.specs.Faults as trace_faults
 use Rattle.bk_trace.specs.Traces as traces
-use Rattle.bk_cmd.specs.Answers.{Answer, Due, Refuses, Fault, bad_at, SaysOf, drawn_text}
+use Rattle.bk_cmd.specs.Answers.{Answer, Due, Refuses, Fault, bad_at, VerdictOn, SaysOf, drawn_text}
 use Rattle.bk_cmd.specs.Inputs.{Files, FileHolds, ImageIs, TraceIs, AfterImage}
 use Rattle.bk_cmd.specs.Words.{Command, OfFile, Source, Generate, Replay, file_of}
 use Rattle.bk_cmd.specs.declared.outcome.Unread as unread
@@ -56,11 +57,16 @@ IsReadStop files name number failed missed Memory = Unit {0}
 IsReadStop files name number failed missed (Unread file cause) = (file ≡ number) × IsUnread files name failed missed cause
 IsReadStop files name number failed missed _ = ⊥
 
+-- the verdict refuses the image of a file
+abbrev pub ImageIsRefused : Files → List ℕ → ℕ → ℕ → Type 0
+ImageIsRefused files name at obligation = FileHolds files name (λ bytes. VerdictOn (image_at bytes) (Refuses at obligation))
+
 -- of the image of a replay
 abbrev pub IsImageStop : Files → List ℕ → Type 0 → Type 0 → Stop → Type 0
 IsImageStop files name failed missed Memory = Unit {0}
 IsImageStop files name failed missed (Unread file cause) = (file ≡ 1) × IsUnread files name failed missed cause
 IsImageStop files name failed missed (Bad file at column kind) = (file ≡ 1) × (column ≡ 0) × ImageIs files name (Err (bad_at at kind))
+IsImageStop files name failed missed (Refused refusal) = ImageIsRefused files name refusal.at refusal.obligation
 IsImageStop files name failed missed _ = ⊥
 
 -- of its trace
@@ -72,7 +78,7 @@ IsTraceStop files name failed missed _ = ⊥
 
 -- ---- commands
 
--- this file is the command's, and its turn comes: a trace is read after an image
+-- this file is the command's, and its turn comes: a trace is read after an image that is accepted
 abbrev pub Reaches : Files → Command → ℕ → Type 0
 Reaches files (OfFile question name) file = file ≡ 1
 Reaches files (Source text) file = ⊥
@@ -86,7 +92,12 @@ Says files (Source text) answer = answer ≡ Due text
 Says files (Generate seed config operations) answer = answer ≡ Due (drawn_text seed config operations)
 Says files (Replay output image trace) answer = ⊥
 
--- the first fault of the image; or that of the trace, after an image
+-- the verdict refuses the image: the one file of the command, or the image of a replay
+abbrev pub IsRefused : Files → Command → ℕ → ℕ → Type 0
+IsRefused files (Replay output image trace) at obligation = ImageIsRefused files image at obligation
+IsRefused files command at obligation = Says files command (Refuses at obligation)
+
+-- the first fault of the image; or that of the trace, after an image that is accepted
 abbrev pub IsBadInput : Files → List ℕ → List ℕ → ℕ → ℕ → ℕ → ℕ → Type 0
 IsBadInput files image trace file at column kind =
     ((file ≡ 1) × (column ≡ 0) × ImageIs files image (Err (bad_at at kind)))
@@ -108,4 +119,4 @@ IsStop files command failed missed Memory = Unit {0}
 IsStop files command failed missed Usage = ⊥
 IsStop files command failed missed (Unread file cause) = IsMissing files command file failed missed cause
 IsStop files command failed missed (Bad file at column kind) = IsBad files command file at column kind
-IsStop files command failed missed (Refused refusal) = Says files command (Refuses refusal.at refusal.obligation)
+IsStop files command failed missed (Refused refusal) = IsRefused files command refusal.at refusal.obligation

@@ -3,6 +3,7 @@
 ghost use Rattle.std.specs.Prelude.{◌≡◌, ◌≤◌, ◌-◌, ◌^◌, Ok, Some, IfOk, IfErr, IfSome};
 ghost use Rattle.bk_outer.specs.Counts.{Rose};
 ghost use Rattle.bk_image.specs.Reading.{image_at};
+ghost use Rattle.bk_check.specs.Accepted.{Accepted};
 ghost use Rattle.bk_trace.specs.Reading.{trace_at};
 ghost use Rattle.bk_cmd.specs.Inputs.{ImageIs, TraceIs};
 ghost use Rattle.bk_cmd.specs.Stops.{GivesImage, GivesTrace, IsReadStop, IsImageStop, IsTraceStop, IsStop};
@@ -12,6 +13,7 @@ use crate::outcome::{Stop, Unread};
 use crate::words::Output;
 use bk_image::{Image, ImageFault, read_image};
 use bk_outer::{ReadAnswer, Shelf};
+use bk_sound::{Certified, certify};
 use bk_trace::{Trace, TraceFault, read_trace};
 use std::alloc::Global;
 
@@ -24,7 +26,7 @@ const SECOND: u8 = 2;
 #[derive(Drop)]
 pub(crate) struct Inputs {
     pub output: Output,
-    pub image: Image,
+    pub image: Certified,
     pub trace: Trace,
 }
 
@@ -94,9 +96,10 @@ pub(crate) fn bytes_of<H: Shelf>(
     }
 }
 
-/// Reads the image of a replay.
-fn image_of<H: Shelf>(alloc: Global, shelf: &mut H, name: &str) -> Result<Image, Stop>
+/// Reads the image of a replay, which is run only where it is accepted.
+fn certified_of<H: Shelf>(alloc: Global, shelf: &mut H, name: &str) -> Result<Certified, Stop>
     ensures ok { IfOk result (λ image. ImageIs (H.files shelf.old) name.now (Ok image)) }
+    ensures accepted { IfOk result (λ image. Accepted image) }
     ensures err { IfErr result (IsImageStop (H.files shelf.old) name.now
         (Rose (H.faults shelf.old) (H.faults shelf.new)) (Rose (H.misses shelf.old) (H.misses shelf.new))) }
     ensures same_files { H.files shelf.new ≡ H.files shelf.old }
@@ -105,9 +108,19 @@ fn image_of<H: Shelf>(alloc: Global, shelf: &mut H, name: &str) -> Result<Image,
     ensures faults_last { H.faults shelf.old ≡ 2 ^ 64 - 1 → H.faults shelf.new ≡ 2 ^ 64 - 1 }
     ensures misses_last { H.misses shelf.old ≡ 2 ^ 64 - 1 → H.misses shelf.new ≡ 2 ^ 64 - 1 }
 {
-    match bytes_of(alloc, shelf, FIRST, name) {
-        Ok(bytes) => image_in(alloc, &bytes),
-        Err(stop) => Err(stop),
+    let bytes = match bytes_of(alloc, shelf, FIRST, name) {
+        Ok(bytes) => bytes,
+        Err(stop) => return Err(stop),
+    };
+    let image = match image_in(alloc, &bytes) {
+        Ok(image) => image,
+        Err(stop) => return Err(stop),
+    };
+    match certify(image) {
+        Ok(certified) => Ok(certified),
+        Err(refused) => Err(Stop::Refused {
+            refusal: refused.refusal,
+        }),
     }
 }
 
@@ -128,7 +141,7 @@ fn trace_of<H: Shelf>(alloc: Global, shelf: &mut H, name: &str) -> Result<Trace,
     }
 }
 
-/// Reads the image of a replay and then the trace.
+/// Reads the image of a replay, and then, where it is accepted, the trace.
 pub(crate) fn inputs_of<H: Shelf>(
     alloc: Global,
     shelf: &mut H,
@@ -138,6 +151,7 @@ pub(crate) fn inputs_of<H: Shelf>(
 ) -> Result<Inputs, Stop>
     ensures output { IfOk result (λ i. i.output ≡ output) }
     ensures image { IfOk result (λ i. ImageIs (H.files shelf.old) image_name.now (Ok i.image)) }
+    ensures accepted { IfOk result (λ i. Accepted i.image) }
     ensures trace { IfOk result (λ i. TraceIs (H.files shelf.old) trace_name.now (Ok i.trace)) }
     ensures stop { IfErr result (IsStop (H.files shelf.old) (Replay output image_name.now trace_name.now)
         (Rose (H.faults shelf.old) (H.faults shelf.new)) (Rose (H.misses shelf.old) (H.misses shelf.new))) }
@@ -145,7 +159,7 @@ pub(crate) fn inputs_of<H: Shelf>(
     ensures faults_kept { H.faults shelf.old ≤ H.faults shelf.new }
     ensures misses_kept { H.misses shelf.old ≤ H.misses shelf.new }
 {
-    let image = match image_of(alloc, shelf, image_name) {
+    let image = match certified_of(alloc, shelf, image_name) {
         Ok(image) => image,
         Err(stop) => return Err(stop),
     };

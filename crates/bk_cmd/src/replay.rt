@@ -3,6 +3,7 @@
 ghost use Rattle.std.specs.Prelude.{◌≡◌, ◌≤◌, ◌<◌, ◌⊎◌, ◌++◌, [], true, false, IfOk, IfErr, IsTrue};
 ghost use Rattle.std.specs.Fn.{FnReturnsAt};
 ghost use Rattle.bk_lce.specs.Asked.{IsPolicy};
+ghost use Rattle.bk_coherent.specs.Coherent.{StaysCoherent};
 ghost use Rattle.bk_outer.specs.Counts.{Rose};
 ghost use Rattle.bk_cmd.specs.Outcomes.{LeavesRest, is_after_run, is_after_write};
 ghost use Rattle.bk_run.specs.Report.{IsReport};
@@ -25,7 +26,7 @@ fn log_due(alloc: Global, inputs: &Inputs, events: &[Event]) -> Result<Vec<u8>, 
 {
     match inputs.output {
         Output::Report => Ok(Vec::new(alloc)),
-        Output::LogAndReport => log(alloc, &inputs.image, &inputs.trace, events),
+        Output::LogAndReport => log(alloc, inputs.image.image(), &inputs.trace, events),
     }
 }
 
@@ -38,6 +39,7 @@ fn write_texts<K: Sink, F: Fn(&[WayView]) -> u8 + Copy + Send>(
     sink: &mut K,
 ) -> Outcome
     requires ended { RunEnds (FnReturnsAt F.Fn victim.now.pick) inputs.now.image inputs.now.trace run.end.events.items true }
+    requires coherent { StaysCoherent inputs.now.trace.config inputs.now.image.instrs run.end.events.items }
     requires report { IsReport inputs.now.trace.config inputs.now.image.instrs inputs.now.trace.lines run.end.events.items run.report.items }
     ensures ok { result.status ≡ OK →
         Reported (FnReturnsAt F.Fn victim.now.pick) inputs.now.output inputs.now.image inputs.now.trace result (K.taken sink.old) (K.taken sink.new) }
@@ -69,14 +71,16 @@ fn run<F: Fn(&[WayView]) -> u8 + Copy + Send>(
     requires { IsPolicy F.Fn victim.now.pick }
     ensures ok { IfOk result (λ run.
         RunEnds (FnReturnsAt F.Fn victim.now.pick) inputs.now.image inputs.now.trace run.end.events.items run.end.complete) }
+    ensures coherent { IfOk result (λ run. StaysCoherent inputs.now.trace.config inputs.now.image.instrs run.end.events.items) }
     ensures report { IfOk result (λ run.
         IsReport inputs.now.trace.config inputs.now.image.instrs inputs.now.trace.lines run.end.events.items run.report.items) }
     ensures err { IfErr result (IsRunFault (FnReturnsAt F.Fn victim.now.pick) inputs.now.image inputs.now.trace) }
 {
-    let instructions = inputs.image.instrs().len() as u64;
+    let image = inputs.image.image();
+    let instructions = image.instrs().len() as u64;
     let operations = inputs.trace.lines().len() as u64;
     let events_limit = budget(inputs.trace.config(), instructions, operations);
-    serial_report(alloc, &inputs.image, &inputs.trace, victim, events_limit)
+    serial_report(alloc, image, &inputs.trace, victim, events_limit)
 }
 
 /// Runs the greedy schedule, and writes what is due of a complete run.

@@ -1,15 +1,17 @@
-//! Replays of the four protocols.
+//! Replays of the four protocols, and runs of images that are refused.
 
-use super::tests::{asked, shelf as shelf_of, sink, words, words_of};
+use super::tests::{NOP, asked, shelf as shelf_of, sink, words, words_of};
 use super::*;
-use crate::programs::{EI, MESI, MOESIF, MSI};
+use crate::programs::{EI, MESI, MOESIF, MSI, UNCACHED};
 use bk_base::Op;
+use bk_check::Refusal;
 use bk_engine::Choice;
-use bk_image::read_image;
+use bk_image::{read_image, write_image};
 use bk_lce::{Victim, WayView, oldest};
 use bk_log::log;
 use bk_outer::MemSink;
-use bk_run::{budget, report, serial};
+use bk_run::{RunEnd, budget, report, serial};
+use bk_sound::certify;
 use bk_system::Event;
 use bk_trace::read_trace;
 use std::alloc::Global;
@@ -221,60 +223,123 @@ fn reports_of_protocols(rt: HostRuntime) -> Result<(), Fail> {
     Ok(())
 }
 
-#[test]
-fn a_log_of_messages(rt: HostRuntime) -> Result<(), Fail> {
-    let alloc = rt.alloc();
-    let trace = "config 2 4 2\n0 US 0x40 7\n1 UL 0x40\n";
-    let mut shelf = shelf_of(alloc, &MESI, trace, Vec::new(alloc))?;
-    let mut sink = sink(alloc);
-    let words = words_of(alloc, &["replay", "log", "a.bk", "b.trace"])?;
-    let outcome = asked(alloc, &words, &mut shelf, &mut sink);
-    assert_eq!(rt; outcome.status, OK);
-    let beginning = "I 0 US 0x40 7 0\nm 0400f0000000000040000000000000000700000000000000\n";
-    assert!(rt; sink.bytes().starts_with(beginning.as_bytes()));
-    Ok(())
-}
-
-/// A trace of 5,000 operations on four caches, drawn from 7.
-fn drawn(alloc: Global) -> Result<Vec<u8>, Fail> {
+/// The trace that `gen` draws with these numbers.
+fn drawn(alloc: Global, numbers: &[&str; 5]) -> Result<Vec<u8>, Fail> {
     let mut shelf = shelf_of(alloc, &[], "", Vec::new(alloc))?;
     let mut sink = MemSink::make(alloc, 1_000_000, Vec::new(alloc));
-    let words = words_of(alloc, &["gen", "7", "4", "16", "4", "5000"])?;
+    let mut words = words_of(alloc, &["gen"])?;
+    for number in numbers {
+        words.push(String::from_str(alloc, number)?)?;
+    }
     let _outcome = asked(alloc, &words, &mut shelf, &mut sink);
     Ok(sink.bytes().to_vec(alloc)?)
 }
 
-/// The report of `moesif` over that trace.
-fn report_of_drawn(alloc: Global) -> Result<Vec<u8>, Fail> {
-    let trace = drawn(alloc)?;
+/// 500 operations on four caches of four sets, and 5,000 of 16 sets.
+const FEW: [&str; 5] = ["3", "4", "4", "2", "500"];
+
+const MANY: [&str; 5] = ["7", "4", "16", "4", "5000"];
+
+/// The report of a protocol over a drawn trace.
+fn report_of_drawn(alloc: Global, image: &[u8], numbers: &[&str; 5]) -> Result<Vec<u8>, Fail> {
+    let trace = drawn(alloc, numbers)?;
     let text = std::str::from_utf8(&trace)?;
-    let mut shelf = shelf_of(alloc, &MOESIF, text, Vec::new(alloc))?;
+    let mut shelf = shelf_of(alloc, image, text, Vec::new(alloc))?;
     let mut sink = MemSink::make(alloc, 1_000_000, Vec::new(alloc));
     let _outcome = asked(alloc, &words(alloc)?, &mut shelf, &mut sink);
     Ok(sink.bytes().to_vec(alloc)?)
 }
 
-/// The report of the events that `serial` makes there.
-fn report_of_events(alloc: Global) -> Result<Vec<u8>, Fail> {
-    let image = read_image(alloc, &MOESIF)?;
-    let trace = read_trace(alloc, &drawn(alloc)?)?;
+#[test]
+fn a_drawn_run_of_ei_comes_to_rest(rt: HostRuntime) -> Result<(), Fail> {
+    let report = report_of_drawn(rt.alloc(), &EI, &FEW)?;
+    assert!(rt; report.ends_with("end rested\n".as_bytes()));
+    Ok(())
+}
+
+/// The end of the run that `serial` makes of an image over a trace.
+fn end_of(alloc: Global, image: &[u8], trace: &[u8]) -> Result<RunEnd, Fail> {
+    let image = read_image(alloc, image)?;
+    let trace = read_trace(alloc, trace)?;
     let victim = Victim::store(|views: &[WayView]| oldest(views));
-    let limit = budget(trace.config(), image.instrs().len() as u64, 5000);
+    let limit = budget(
+        trace.config(),
+        image.instrs().len() as u64,
+        trace.lines().len() as u64,
+    );
     match serial(alloc, &image, &trace, &victim, limit) {
-        Ok(end) => Ok(report(alloc, &image, &trace, &end.events)?),
+        Ok(end) => Ok(end),
         Err(_) => Err(Fail::from("the run has no end")),
     }
+}
+
+/// The report of a list of events.
+fn report_of(alloc: Global, image: &[u8], trace: &[u8], events: &[Event]) -> Result<Vec<u8>, Fail> {
+    Ok(report(
+        alloc,
+        &read_image(alloc, image)?,
+        &read_trace(alloc, trace)?,
+        events,
+    )?)
 }
 
 #[test]
 fn the_report_of_a_large_run_is_that_of_its_events(rt: HostRuntime) -> Result<(), Fail> {
     let alloc = rt.alloc();
-    let first = report_of_drawn(alloc)?;
+    let first = report_of_drawn(alloc, &MOESIF, &MANY)?;
     assert!(rt; first.ends_with("end rested\n".as_bytes()));
-    assert!(rt; first == report_of_events(alloc)?);
-    let image = read_image(alloc, &MOESIF)?;
-    let trace = read_trace(alloc, &drawn(alloc)?)?;
-    assert!(rt; report(alloc, &image, &trace, &[])?.ends_with("end unrested\n".as_bytes()));
+    let trace = drawn(alloc, &MANY)?;
+    let end = end_of(alloc, &MOESIF, &trace)?;
+    assert!(rt; first == report_of(alloc, &MOESIF, &trace, &end.events)?);
+    let none = report_of(alloc, &MOESIF, &trace, &[])?;
+    assert!(rt; none.ends_with("end unrested\n".as_bytes()));
+    Ok(())
+}
+
+// An image that is refused can still be run by `serial`, and its events reported.
+#[test]
+fn an_image_that_is_refused_can_be_run(rt: HostRuntime) -> Result<(), Fail> {
+    let alloc = rt.alloc();
+    let trace = "config 2 4 2\n0 US 0x40 7\n1 UL 0x40\n".as_bytes();
+    let end = end_of(alloc, &UNCACHED, trace)?;
+    assert!(rt; end.complete);
+    assert_eq!(rt; end.events.len(), 37);
+    let text = "\
+0 US 0x40 7
+1 UL 0x40 = 7
+events issue 2 command 2 fill 0 memory 2 engine 31
+messages request 2 command 2 fill 0 response 2 memout 2 memin 1
+end rested
+";
+    let report = report_of(alloc, &UNCACHED, trace, &end.events)?;
+    assert!(rt; report.as_slice() == text.as_bytes());
+    // Behind one `nop` the engine is stuck.
+    let stuck = end_of(alloc, &NOP, "config 1 1 1".as_bytes())?;
+    assert!(rt; !stuck.complete);
+    assert_eq!(rt; stuck.events.len(), 1);
+    Ok(())
+}
+
+#[test]
+fn an_image_is_handed_on_or_back(rt: HostRuntime) -> Result<(), Fail> {
+    let alloc = rt.alloc();
+    match certify(read_image(alloc, &MESI)?) {
+        Ok(certified) => assert!(rt; write_image(alloc, certified.image())? == MESI.to_vec(alloc)?),
+        Err(_) => return Err(Fail::from("mesi is refused")),
+    }
+    match certify(read_image(alloc, &UNCACHED)?) {
+        Ok(_) => return Err(Fail::from("an image without know lines is accepted")),
+        Err(refused) => {
+            assert_eq!(rt;
+                refused.refusal,
+                Refusal {
+                    at: 0,
+                    obligation: 1
+                }
+            );
+            assert!(rt; write_image(alloc, &refused.image)? == UNCACHED.to_vec(alloc)?);
+        }
+    }
     Ok(())
 }
 

@@ -33,8 +33,8 @@ use std::alloc::Global;
 /// - `replay serial IMAGE TRACE`: the report of the greedy run of the image over the trace;
 /// - `replay log IMAGE TRACE`: the log of that run, and then its report.
 ///
-/// The words are judged first. Then each file is read and checked, in their order; `verify` gives its verdict, and a
-/// replay makes its run; then comes the writing. What is met first is answered, by a status:
+/// The words are judged first. Then each file is read and checked, in their order; `verify` gives its verdict, and so does a
+/// replay, before it reads its trace and makes its run; then comes the writing. What is met first is answered, by a status:
 ///
 /// - `OK`: the sink took all that is due, and a run is complete;
 /// - `MEMORY`: memory ran out, at any moment after the words;
@@ -47,8 +47,8 @@ use std::alloc::Global;
 /// - `TOO_LONG`: a file has too many bytes, an image or a text too many instructions, or a trace too many operations;
 /// - `SPENT`: the run ended and is not complete.
 ///
-/// Each operation of a replay begins with the way that the victim policy answers for it. Any image that is one is replayed,
-/// accepted or not.
+/// Each operation of a replay begins with the way that the victim policy answers for it. Only an image that is accepted is
+/// replayed, and its run is coherent at the opening and after each of its events (`docs/COHERENCE.md`).
 pub fn run_plain<H: Shelf, K: Sink, F: Fn(&[WayView]) -> u8 + Copy + Send>(
     alloc: Global,
     words: &[String],

@@ -7,7 +7,7 @@ use std::alloc::Global;
 use std::test::Fail;
 
 /// One `nop`, behind which the engine is stuck.
-const NOP: [u8; 24] = [
+pub(crate) const NOP: [u8; 24] = [
     0x42, 0x4b, 0x55, 0x43, 0x01, 0x00, 0x00, 0x00, 0x01, 0x00, 0x00, 0x00, 0x00, 0x00, 0x00, 0x00,
     0x00, 0x00, 0x00, 0x00, 0x00, 0x00, 0x00, 0x00,
 ];
@@ -15,10 +15,11 @@ const NOP: [u8; 24] = [
 // A store past the cache, and a load of the same word by another cache.
 const TWO_OPERATIONS: &str = "config 2 4 2\n0 US 0x40 7\n1 UL 0x40\n";
 
+/// Their report under `mesi`: the second request finds its group pending, and is deferred.
 const TWO_OPERATIONS_REPORT: &str = "\
 0 US 0x40 7
 1 UL 0x40 = 7
-events issue 2 command 2 fill 0 memory 2 engine 31
+events issue 2 command 2 fill 0 memory 2 engine 47
 messages request 2 command 2 fill 0 response 2 memout 2 memin 1
 end rested
 ";
@@ -94,28 +95,32 @@ fn numbers(outcome: &Outcome) -> [u64; 6] {
     ]
 }
 
+// The verdict comes before the trace, whose read would fail.
 #[test]
-fn two_operations(rt: HostRuntime) -> Result<(), Fail> {
+fn an_image_that_is_refused_is_not_replayed(rt: HostRuntime) -> Result<(), Fail> {
     let alloc = rt.alloc();
-    let mut shelf = shelf(alloc, &UNCACHED, TWO_OPERATIONS, Vec::new(alloc))?;
-    let mut sink = sink(alloc);
-    let outcome = asked(alloc, &words(alloc)?, &mut shelf, &mut sink);
-    assert_eq!(rt; numbers(&outcome), [OK as u64, 0, 0, 0, 0, 152]);
-    assert_eq!(rt; outcome.events.len(), 37);
-    assert!(rt; sink.bytes() == TWO_OPERATIONS_REPORT.as_bytes());
-    assert!(rt; fault_line(&outcome).as_str() == "");
+    for mode in ["serial", "log"] {
+        let mut shelf = shelf(alloc, &UNCACHED, TWO_OPERATIONS, vec![in alloc; 2]?)?;
+        let mut sink = sink(alloc);
+        let words = words_of(alloc, &["replay", mode, "a.bk", "b.trace"])?;
+        let outcome = asked(alloc, &words, &mut shelf, &mut sink);
+        assert_eq!(rt; numbers(&outcome), [REFUSED as u64, 0, 0, 0, 0, 0]);
+        assert_eq!(rt; outcome.events.len(), 0);
+        assert_eq!(rt; sink.bytes().len(), 0);
+        assert!(rt; fault_line(&outcome).as_str() == "bedrock: refused at 0: O1");
+    }
     Ok(())
 }
 
 #[test]
 fn a_log(rt: HostRuntime) -> Result<(), Fail> {
     let alloc = rt.alloc();
-    let mut shelf = shelf(alloc, &UNCACHED, TWO_OPERATIONS, Vec::new(alloc))?;
+    let mut shelf = shelf(alloc, &MESI, TWO_OPERATIONS, Vec::new(alloc))?;
     let mut sink = sink(alloc);
     let words = words_of(alloc, &["replay", "log", "a.bk", "b.trace"])?;
     let outcome = asked(alloc, &words, &mut shelf, &mut sink);
     assert_eq!(rt; outcome.status, OK);
-    assert_eq!(rt; outcome.events.len(), 37);
+    assert_eq!(rt; outcome.events.len(), 53);
     assert_eq!(rt; outcome.written, sink.bytes().len() as u64);
     assert!(rt; sink.bytes().starts_with(TWO_OPERATIONS_LOG.as_bytes()));
     assert!(rt; sink.bytes().ends_with(TWO_OPERATIONS_REPORT.as_bytes()));
@@ -133,7 +138,7 @@ fn faults_of_a_trace(rt: HostRuntime) -> Result<(), Fail> {
         ("config 2 4 2\n0 UL 0x40 7", 2, 11, 46),
     ];
     for (trace, line, column, kind) in cases {
-        let mut shelf = shelf(alloc, &UNCACHED, trace, Vec::new(alloc))?;
+        let mut shelf = shelf(alloc, &MESI, trace, Vec::new(alloc))?;
         let mut sink = sink(alloc);
         let outcome = asked(alloc, &words(alloc)?, &mut shelf, &mut sink);
         assert_eq!(rt;
@@ -151,7 +156,7 @@ fn too_many_operations(rt: HostRuntime) -> Result<(), Fail> {
     for _ in 0..10_001 {
         trace.push_str("0 UL 0x0\n")?;
     }
-    let mut shelf = shelf(alloc, &UNCACHED, &trace, Vec::new(alloc))?;
+    let mut shelf = shelf(alloc, &MESI, &trace, Vec::new(alloc))?;
     let mut sink = sink(alloc);
     let outcome = asked(alloc, &words(alloc)?, &mut shelf, &mut sink);
     assert_eq!(rt; numbers(&outcome), [TOO_LONG as u64, 2, 10_002, 1, 47, 0]);
@@ -162,38 +167,23 @@ fn too_many_operations(rt: HostRuntime) -> Result<(), Fail> {
 #[test]
 fn no_operation(rt: HostRuntime) -> Result<(), Fail> {
     let alloc = rt.alloc();
-    for image in [UNCACHED.as_slice(), MESI.as_slice()] {
-        let mut shelf = shelf(alloc, image, "config 2 4 2", Vec::new(alloc))?;
-        let mut sink = sink(alloc);
-        let outcome = asked(alloc, &words(alloc)?, &mut shelf, &mut sink);
-        assert_eq!(rt; outcome.status, OK);
-        assert_eq!(rt; outcome.events.len(), 0);
-        assert!(rt; sink.bytes() == EMPTY_REPORT.as_bytes());
-    }
-    Ok(())
-}
-
-#[test]
-fn a_stuck_engine(rt: HostRuntime) -> Result<(), Fail> {
-    let alloc = rt.alloc();
-    let mut shelf = shelf(alloc, &NOP, "config 1 1 1", Vec::new(alloc))?;
+    let mut shelf = shelf(alloc, &MESI, "config 2 4 2", Vec::new(alloc))?;
     let mut sink = sink(alloc);
     let outcome = asked(alloc, &words(alloc)?, &mut shelf, &mut sink);
-    assert_eq!(rt; numbers(&outcome), [SPENT as u64, 0, 0, 0, 0, 0]);
-    assert_eq!(rt; outcome.events.len(), 1);
-    assert_eq!(rt; sink.bytes().len(), 0);
-    assert!(rt; fault_line(&outcome).as_str() == "bedrock: spent");
+    assert_eq!(rt; outcome.status, OK);
+    assert_eq!(rt; outcome.events.len(), 0);
+    assert!(rt; sink.bytes() == EMPTY_REPORT.as_bytes());
     Ok(())
 }
 
 #[test]
 fn a_write_that_fails(rt: HostRuntime) -> Result<(), Fail> {
     let alloc = rt.alloc();
-    let mut shelf = shelf(alloc, &UNCACHED, TWO_OPERATIONS, Vec::new(alloc))?;
+    let mut shelf = shelf(alloc, &MESI, TWO_OPERATIONS, Vec::new(alloc))?;
     let mut sink = MemSink::make(alloc, 50, vec![in alloc; 3]?);
     let outcome = asked(alloc, &words(alloc)?, &mut shelf, &mut sink);
     assert_eq!(rt; numbers(&outcome), [WRITE_FAULT as u64, 0, 0, 0, 0, 100]);
-    assert_eq!(rt; outcome.events.len(), 37);
+    assert_eq!(rt; outcome.events.len(), 53);
     assert!(rt; sink.bytes() == &TWO_OPERATIONS_REPORT.as_bytes()[..100]);
     assert!(rt; fault_line(&outcome).as_str() == "bedrock: write fault");
     Ok(())
@@ -244,7 +234,7 @@ fn words_that_are_no_command(rt: HostRuntime) -> Result<(), Fail> {
 #[test]
 fn no_words(rt: HostRuntime) -> Result<(), Fail> {
     let alloc = rt.alloc();
-    let mut shelf = shelf(alloc, &UNCACHED, TWO_OPERATIONS, Vec::new(alloc))?;
+    let mut shelf = shelf(alloc, &MESI, TWO_OPERATIONS, Vec::new(alloc))?;
     let mut sink = sink(alloc);
     let outcome = asked(alloc, &[], &mut shelf, &mut sink);
     assert_eq!(rt; numbers(&outcome), [USAGE as u64, 0, 0, 0, 0, 0]);
@@ -268,7 +258,7 @@ fn a_reserved_field(rt: HostRuntime) -> Result<(), Fail> {
 #[test]
 fn a_read_that_fails(rt: HostRuntime) -> Result<(), Fail> {
     let alloc = rt.alloc();
-    let mut shelf = shelf(alloc, &UNCACHED, TWO_OPERATIONS, vec![in alloc; 2]?)?;
+    let mut shelf = shelf(alloc, &MESI, TWO_OPERATIONS, vec![in alloc; 2]?)?;
     let mut sink = sink(alloc);
     let outcome = asked(alloc, &words(alloc)?, &mut shelf, &mut sink);
     assert_eq!(rt; numbers(&outcome), [READ_FAULT as u64, 2, 0, 0, 0, 0]);
@@ -294,19 +284,25 @@ fn long_numbers(rt: HostRuntime) {
     );
 }
 
-#[test]
-fn memory_is_told(rt: HostRuntime) {
-    let outcome = Outcome {
-        status: MEMORY,
+/// The outcome that has this status and nothing else.
+fn bare(alloc: Global, status: u8) -> Outcome {
+    Outcome {
+        status,
         file: 0,
         at: 0,
         column: 0,
         kind: 0,
         refusal: None,
-        events: Vec::new(rt.alloc()),
+        events: Vec::new(alloc),
         written: 0,
-    };
-    assert!(rt; fault_line(&outcome).as_str() == "bedrock: memory");
+    }
+}
+
+#[test]
+fn memory_and_spent_are_told(rt: HostRuntime) {
+    let alloc = rt.alloc();
+    assert!(rt; fault_line(&bare(alloc, MEMORY)).as_str() == "bedrock: memory");
+    assert!(rt; fault_line(&bare(alloc, SPENT)).as_str() == "bedrock: spent");
 }
 
 /// The words `verify a.bk`.
@@ -406,7 +402,7 @@ fn files_without_bytes(rt: HostRuntime) -> Result<(), Fail> {
     let outcome = asked(alloc, &words(alloc)?, &mut empty, &mut sink);
     assert_eq!(rt; numbers(&outcome), [ABSENT as u64, 1, 0, 0, 0, 0]);
     let mut files = Vec::new(alloc);
-    files.push((String::from_str(alloc, "a.bk")?, UNCACHED.to_vec(alloc)?))?;
+    files.push((String::from_str(alloc, "a.bk")?, MESI.to_vec(alloc)?))?;
     let mut no_trace = MemShelf::make(alloc, files, Vec::new(alloc));
     let outcome = asked(alloc, &words(alloc)?, &mut no_trace, &mut sink);
     assert_eq!(rt; numbers(&outcome), [ABSENT as u64, 2, 0, 0, 0, 0]);

@@ -3,6 +3,7 @@ pub mod Counted
 pub mod Ends
 pub mod InOrder
 pub mod Issues
+pub mod Lawful
 pub mod Lines
 pub mod Prefixes
 pub mod RowOne

@@ -1,10 +1,34 @@
-use Rattle.std.proofs.Common.{◌≡◌, rules}
+use Rattle.std.proofs.Common.{◌≡◌, ℕ, List, subst}
 use Rattle.std.specs.Fn.{FnReturnsAt}
+use Rattle.std.specs.List.{All}
+use Rattle.bk_base.specs.Places.{InProfile}
+use Rattle.bk_base.specs.declared.op.Op.{Op}
+use Rattle.bk_trace.specs.Traces.{IsLine}
 use Rattle.bk_cmd.specs.Replays.{budget_for}
-use Rattle.bk_cmd.proofs.Ends.{fault-told}
+use Rattle.bk_cmd.proofs.Ends.{fault-told, end-told, report-told, run-coherent}
 use Rattle.bk_cmd.proofs.replay.run.Goals as goal
 
 pub returns-clause-err : goal.returns-clause-err
 returns-clause-err g c =
     let same : c.budget-events_limit.result ≡ budget_for c.args.inputs.now.image c.args.inputs.now.trace = cc in
-    fault-told (FnReturnsAt g.F.Fn c.args.victim.now.pick) c.args.inputs.now.image c.args.inputs.now.trace c.budget-events_limit.result c.serial_report.result same (search rules)
+    fault-told (FnReturnsAt g.F.Fn c.args.victim.now.pick) c.image-image.result.now c.args.inputs.now.image c.args.inputs.now.trace c.budget-events_limit.result
+    c.image-image.ensures.value same c.serial_report.result c.serial_report.ensures.fault
+
+pub returns-clause-ok : goal.returns-clause-ok
+returns-clause-ok g c =
+    let same : c.budget-events_limit.result ≡ budget_for c.args.inputs.now.image c.args.inputs.now.trace = cc in
+    end-told (FnReturnsAt g.F.Fn c.args.victim.now.pick) c.image-image.result.now c.args.inputs.now.image c.args.inputs.now.trace c.budget-events_limit.result
+    c.image-image.ensures.value same c.serial_report.result c.serial_report.ensures.ok
+
+pub returns-clause-coherent : goal.returns-clause-coherent
+returns-clause-coherent g c =
+    run-coherent (FnReturnsAt g.F.Fn c.args.victim.now.pick) c.args.inputs.now.image c.args.inputs.now.trace c.serial_report.result c.image-image.ensures.sound
+    (subst InProfile c.config.ensures.value c.config.ensures.profile)
+    (subst (λ (lines : List (ℕ × Op)). All (λ line. IsLine c.args.inputs.now.trace.config.caches line) lines) c.lines.ensures.value c.lines.ensures.each)
+    (returns-clause-ok g c)
+
+pub returns-clause-report : goal.returns-clause-report
+returns-clause-report g c =
+    let same : c.budget-events_limit.result ≡ budget_for c.args.inputs.now.image c.args.inputs.now.trace = cc in
+    report-told (FnReturnsAt g.F.Fn c.args.victim.now.pick) c.image-image.result.now c.args.inputs.now.image c.args.inputs.now.trace c.budget-events_limit.result
+    c.image-image.ensures.value same c.serial_report.result c.serial_report.ensures.report
