@@ -1,5 +1,5 @@
 -- How a replay ends: what its run says, that it stayed coherent, and what is due of it.
-use Rattle.std.proofs.Common.{◌≡◌, ℕ, Bool, true, List, ◌++◌, Option, Result, Ok, Err, IfOk, IfErr, inr, sym, ap, subst}
+use Rattle.std.proofs.Common.{◌≡◌, ℕ, true, List, ◌++◌, Option, Result, Ok, Err, IfOk, IfErr, inr, sym, ap, subst}
 use Rattle.std.specs.List.{All}
 use Rattle.bk_base.specs.Places.{InProfile}
 use Rattle.bk_image.specs.Images as images
@@ -23,12 +23,14 @@ use Rattle.bk_cmd.specs.declared.words.Output.{Output}
 use Rattle.bk_cmd.specs.Replays.{budget_for, RunEnds, IsRunFault, log_due, IsDue, Reported, ReportedPart}
 use Rattle.bk_cmd.specs.Writes.{Wrote, WrotePart}
 
-pub fault-of : (policy : List WayView → ℕ → Type 0) (image : images.Parts) (trace : traces.Parts) (fault : SerialFault) → IsFault policy trace.config image.instrs trace.lines (budget_for image trace) fault → IsRunFault policy image trace fault
+pub fault-of : (policy : List WayView → ℕ → Type 0) (image : images.Parts) (trace : traces.Parts) (fault : SerialFault)
+    → IsFault policy trace.config image.instrs trace.lines (budget_for image trace) fault → IsRunFault policy image trace fault
 fault-of policy image trace (Spent end) h = inr (end.complete, h)
 fault-of policy image trace Memory h = tt
 
 -- What a run's call says of an image that is handed to it (`given`, which is the replay's) is so of the replay's image.
-module _ (policy : List WayView → ℕ → Type 0) (given image : images.Parts) (trace : traces.Parts) (budget : ℕ) (is : given ≡ image) (same : budget ≡ budget_for image trace)
+module _ (policy : List WayView → ℕ → Type 0) (given image : images.Parts) (trace : traces.Parts) (budget : ℕ) (is : given ≡ image)
+    (same : budget ≡ budget_for image trace)
   where
     pub fault-told : (result : Result ReportedRun SerialFault) → IfErr result (IsFault policy trace.config given.instrs trace.lines budget)
         → IfErr result (IsRunFault policy image trace)
@@ -42,28 +44,33 @@ module _ (policy : List WayView → ℕ → Type 0) (given image : images.Parts)
         → IfOk result (λ run. IsEnded policy trace.config given.instrs trace.lines budget run.end.events.items run.end.complete)
         → IfOk result (λ run. RunEnds policy image trace run.end.events.items run.end.complete)
     end-told (Ok run) h =
-        subst (λ (p : images.Parts). IsEnded policy trace.config p.instrs trace.lines (budget_for image trace) run.end.events.items run.end.complete) is
+        subst (λ (p : images.Parts). IsEnded policy trace.config p.instrs trace.lines (budget_for image trace) run.end.events.items
+        run.end.complete) is
         (subst (λ (b : ℕ). IsEnded policy trace.config given.instrs trace.lines b run.end.events.items run.end.complete) same h)
     end-told (Err fault) h = tt
 
     pub report-told : (result : Result ReportedRun SerialFault)
         → IfOk result (λ run. IsReport trace.config given.instrs trace.lines run.end.events.items run.report.items)
         → IfOk result (λ run. IsReport trace.config image.instrs trace.lines run.end.events.items run.report.items)
-    report-told (Ok run) h = subst (λ (p : images.Parts). IsReport trace.config p.instrs trace.lines run.end.events.items run.report.items) is h
+    report-told (Ok run) h =
+        subst (λ (p : images.Parts). IsReport trace.config p.instrs trace.lines run.end.events.items run.report.items) is h
     report-told (Err fault) h = tt
 
 -- a run of a sound image over a trace is coherent at the opening and after each of its events
-pub run-coherent : (policy : List WayView → ℕ → Type 0) (image : images.Parts) (trace : traces.Parts) (result : Result ReportedRun SerialFault)
+pub run-coherent : (policy : List WayView → ℕ → Type 0) (image : images.Parts) (trace : traces.Parts)
+    (result : Result ReportedRun SerialFault)
     → IsSound image.instrs → InProfile trace.config → All (λ line. IsLine trace.config.caches line) trace.lines
     → IfOk result (λ run. RunEnds policy image trace run.end.events.items run.end.complete)
     → IfOk result (λ run. StaysCoherent trace.config image.instrs run.end.events.items)
 run-coherent policy image trace (Ok run) sound profile lines h =
     stays-coherent trace.config image.instrs run.end.events.items sound profile
-    (greedy_from-lawful policy trace.config.caches trace.config image.instrs trace.lines (opening trace.config) run.end.events.items lines h.made.greedy)
+    (greedy_from-lawful policy trace.config.caches trace.config image.instrs trace.lines (opening trace.config) run.end.events.items lines
+    h.made.greedy)
 run-coherent policy image trace (Err fault) sound profile lines h = tt
 
 -- what is due of a run that was complete, where the sink took all of it and where it took a part
-module _ (policy : List WayView → ℕ → Type 0) (output : Output) (image : images.Parts) (trace : traces.Parts) (o : Outcome) (before after : Option (List ℕ))
+module _ (policy : List WayView → ℕ → Type 0) (output : Output) (image : images.Parts) (trace : traces.Parts) (o : Outcome)
+    (before after : Option (List ℕ))
     (es : List Event) (log report : List ℕ) (is : o.events.items ≡ es) (ended : RunEnds policy image trace es true)
     (coherent : StaysCoherent trace.config image.instrs es) (is_report : IsReport trace.config image.instrs trace.lines es report)
     (is_log : log ≡ log_due output image trace es) where

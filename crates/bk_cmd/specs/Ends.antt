@@ -22,12 +22,14 @@ pub record SaysText (files : Files) (command : Command) (Holds : List ℕ → Ty
 
 -- status 0: the sink took all that is due
 abbrev pub EndsWhole : (List WayView → ℕ → Type 0) → Files → Command → Outcome → Option (List ℕ) → Option (List ℕ) → Type 0
-EndsWhole policy files (Replay output image trace) o before after = OfInputs files image trace (λ i t. Reported policy output i t o before after)
+EndsWhole policy files (Replay output image trace) o before after =
+    OfInputs files image trace (λ i t. Reported policy output i t o before after)
 EndsWhole policy files command o before after = SaysText files command (λ text. Wrote text o before after)
 
 -- status 7, and 1 where something was written: the sink took the first bytes of what is due, as many as are told, and no more
 abbrev pub EndsInPart : (List WayView → ℕ → Type 0) → Files → Command → Outcome → Option (List ℕ) → Option (List ℕ) → Type 0
-EndsInPart policy files (Replay output image trace) o before after = OfInputs files image trace (λ i t. ReportedPart policy output i t o before after)
+EndsInPart policy files (Replay output image trace) o before after =
+    OfInputs files image trace (λ i t. ReportedPart policy output i t o before after)
 EndsInPart policy files command o before after = SaysText files command (λ text. WrotePart text o before after)
 
 -- status 3: the refusal is the verdict on the image
@@ -45,5 +47,6 @@ EndsSpent policy files command o = ⊥
 
 -- events are told only of a run, and then all of them
 abbrev pub TellsEvents : (List WayView → ℕ → Type 0) → Files → Command → Outcome → Type 0
-TellsEvents policy files (Replay output image trace) o = (o.events.items ≡ []) ⊎ OfInputs files image trace (λ i t. AreEvents policy i t o.events.items)
+TellsEvents policy files (Replay output image trace) o =
+    (o.events.items ≡ []) ⊎ OfInputs files image trace (λ i t. AreEvents policy i t o.events.items)
 TellsEvents policy files command o = o.events.items ≡ []

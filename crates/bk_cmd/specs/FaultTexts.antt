@@ -10,7 +10,8 @@ refused_text None = codes "bedrock: refused"
 refused_text (Some refusal) = codes "bedrock: refused" ++ codes " at " ++ decimal refusal.at ++ codes ": O" ++ decimal refusal.obligation
 
 abbrev pub malformed_text : Outcome → List ℕ
-malformed_text o = codes "bedrock: malformed file " ++ decimal o.file ++ codes " at " ++ decimal o.at ++ codes ":" ++ decimal o.column ++ codes " kind " ++ decimal o.kind
+malformed_text o = codes "bedrock: malformed file " ++ decimal o.file ++ codes " at " ++ decimal o.at ++ codes ":" ++ decimal o.column
+    ++ codes " kind " ++ decimal o.kind
 
 -- what is wrong with a file as a whole
 abbrev pub file_text : List ℕ → Outcome → List ℕ

@@ -25,12 +25,21 @@ pub record Facts : Type 0 where
   pub written : ℕ
 
 abbrev pub facts_of : Outcome → Facts
-facts_of o = record { status = o.status; file = o.file; at = o.at; column = o.column; kind = o.kind; refusal = o.refusal; written = o.written }
+facts_of o = record {
+  status = o.status;
+  file = o.file;
+  at = o.at;
+  column = o.column;
+  kind = o.kind;
+  refusal = o.refusal;
+  written = o.written;
+}
 
 -- a fault of this kind is that a list is over its limit: an image or a text of microcode has too many instructions, or a trace too
 -- many operations
 abbrev pub is_limit : ℕ → Bool
-is_limit kind = kind == images.kind_code image_kinds.TooMany || kind == texts.kind_code text_kinds.TooMany || kind == traces.kind_code trace_kinds.TooMany
+is_limit kind = kind == images.kind_code image_kinds.TooMany || kind == texts.kind_code text_kinds.TooMany
+    || kind == traces.kind_code trace_kinds.TooMany
 
 abbrev pub no_run : ℕ → ℕ → Option Refusal → Facts
 no_run status file refusal = record { status = status; file = file; at = 0; column = 0; kind = 0; refusal = refusal; written = 0 }
@@ -45,7 +54,16 @@ abbrev pub facts_of_stop : Stop → Facts
 facts_of_stop Memory = no_run MEMORY 0 None
 facts_of_stop Usage = no_run USAGE 0 None
 facts_of_stop (Unread file cause) = no_run (status_of_unread cause) file None
-facts_of_stop (Bad file at column kind) = record { status = if is_limit kind then TOO_LONG else MALFORMED; file = file; at = at; column = column; kind = kind; refusal = None; written = 0 }
+facts_of_stop (Bad file at column kind) =
+    record {
+      status = if is_limit kind then TOO_LONG else MALFORMED;
+      file = file;
+      at = at;
+      column = column;
+      kind = kind;
+      refusal = None;
+      written = 0;
+    }
 facts_of_stop (Refused refusal) = no_run REFUSED 0 (Some refusal)
 
 -- the statuses are 0 to 9

@@ -36,11 +36,13 @@ RunEnds policy image trace events complete = IsEnded policy trace.config image.i
 
 -- the greedy run used its budget up
 abbrev pub RunIsSpent : (List WayView → ℕ → Type 0) → images.Parts → traces.Parts → List Event → Bool → Type 0
-RunIsSpent policy image trace events complete = IsSpent policy trace.config image.instrs trace.lines (budget_for image trace) events complete
+RunIsSpent policy image trace events complete =
+    IsSpent policy trace.config image.instrs trace.lines (budget_for image trace) events complete
 
 -- the run ended without doing all of the trace, or used its budget up
 abbrev pub EndsShort : (List WayView → ℕ → Type 0) → images.Parts → traces.Parts → List Event → Type 0
-EndsShort policy image trace events = RunEnds policy image trace events false ⊎ ((complete : Bool) × RunIsSpent policy image trace events complete)
+EndsShort policy image trace events =
+    RunEnds policy image trace events false ⊎ ((complete : Bool) × RunIsSpent policy image trace events complete)
 
 -- what a fault of a run says
 abbrev pub IsRunFault : (List WayView → ℕ → Type 0) → images.Parts → traces.Parts → SerialFault → Type 0
@@ -63,7 +65,8 @@ pub record IsDue (output : Output) (image : images.Parts) (trace : traces.Parts)
   pub whole : text ≡ log_due output image trace events ++ report
 
 -- The run is complete, it was coherent after each of its events, and all that is due of it was taken.
-pub record Reported (policy : List WayView → ℕ → Type 0) (output : Output) (image : images.Parts) (trace : traces.Parts) (o : Outcome) (before after : Option (List ℕ)) : Type 0 where
+pub record Reported (policy : List WayView → ℕ → Type 0) (output : Output) (image : images.Parts) (trace : traces.Parts) (o : Outcome)
+    (before after : Option (List ℕ)) : Type 0 where
   pub ended : RunEnds policy image trace o.events.items true
   pub coherent : StaysCoherent trace.config image.instrs o.events.items
   pub text : List ℕ
@@ -71,7 +74,8 @@ pub record Reported (policy : List WayView → ℕ → Type 0) (output : Output)
   pub wrote : Wrote text o before after
 
 -- The same, and not all that is due of it was taken.
-pub record ReportedPart (policy : List WayView → ℕ → Type 0) (output : Output) (image : images.Parts) (trace : traces.Parts) (o : Outcome) (before after : Option (List ℕ)) : Type 0 where
+pub record ReportedPart (policy : List WayView → ℕ → Type 0) (output : Output) (image : images.Parts) (trace : traces.Parts) (o : Outcome)
+    (before after : Option (List ℕ)) : Type 0 where
   pub ended : RunEnds policy image trace o.events.items true
   pub coherent : StaysCoherent trace.config image.instrs o.events.items
   pub text : List ℕ

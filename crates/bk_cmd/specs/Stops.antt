@@ -112,7 +112,8 @@ IsBad files (Replay output image trace) file at column kind = IsBadInput files i
 
 -- the file of this number gave no bytes
 abbrev pub IsMissing : Files → Command → ℕ → Type 0 → Type 0 → unread.Unread → Type 0
-IsMissing files command file failed missed cause = Reaches files command file × IfSome (file_of command file) (λ name. IsUnread files name failed missed cause)
+IsMissing files command file failed missed cause = Reaches files command file
+    × IfSome (file_of command file) (λ name. IsUnread files name failed missed cause)
 
 abbrev pub IsStop : Files → Command → Type 0 → Type 0 → Stop → Type 0
 IsStop files command failed missed Memory = Unit {0}

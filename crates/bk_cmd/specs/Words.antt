@@ -52,7 +52,8 @@ source_command (name ∷ []) = source_in (source_of (string_bytes name))
 source_command _ = None
 
 abbrev pub generate_of : List (String Global) → Option Command
-generate_of (seed ∷ caches ∷ sets ∷ ways ∷ operations ∷ []) = generate_in (string_bytes seed) (string_bytes caches) (string_bytes sets) (string_bytes ways) (string_bytes operations)
+generate_of (seed ∷ caches ∷ sets ∷ ways ∷ operations ∷ []) =
+    generate_in (string_bytes seed) (string_bytes caches) (string_bytes sets) (string_bytes ways) (string_bytes operations)
 generate_of _ = None
 
 abbrev pub replay_of : List (String Global) → Option Command

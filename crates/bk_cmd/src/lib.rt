@@ -23,6 +23,10 @@ mod events;
 #[cfg(test)]
 mod programs;
 #[cfg(test)]
-mod rows;
+mod runs;
 #[cfg(test)]
 mod tests;
+#[cfg(test)]
+mod texts;
+#[cfg(test)]
+mod verdicts;

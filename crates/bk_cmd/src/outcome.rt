@@ -96,7 +96,8 @@ fn is_limit(kind: u8) -> bool
 
 /// The outcome of a command that was not begun, with this status of a file, or of none.
 fn no_run(alloc: Global, status: u8, file: u8, refusal: Option<Refusal>) -> Outcome
-    ensures facts { facts_of result ≡ record { status = status; file = file; at = 0; column = 0; kind = 0; refusal = refusal; written = 0 } }
+    ensures facts { facts_of result
+        ≡ record { status = status; file = file; at = 0; column = 0; kind = 0; refusal = refusal; written = 0 } }
     ensures no_events { result.events.items ≡ [] }
 {
     Outcome {

@@ -42,12 +42,15 @@ fn write_texts<K: Sink, F: Fn(&[WayView]) -> u8 + Copy + Send>(
     requires coherent { StaysCoherent inputs.now.trace.config inputs.now.image.instrs run.end.events.items }
     requires report { IsReport inputs.now.trace.config inputs.now.image.instrs inputs.now.trace.lines run.end.events.items run.report.items }
     ensures ok { result.status ≡ OK →
-        Reported (FnReturnsAt F.Fn victim.now.pick) inputs.now.output inputs.now.image inputs.now.trace result (K.taken sink.old) (K.taken sink.new) }
+        Reported (FnReturnsAt F.Fn victim.now.pick) inputs.now.output inputs.now.image inputs.now.trace result (K.taken sink.old)
+        (K.taken sink.new) }
     ensures write_fault { result.status ≡ WRITE_FAULT →
-        ReportedPart (FnReturnsAt F.Fn victim.now.pick) inputs.now.output inputs.now.image inputs.now.trace result (K.taken sink.old) (K.taken sink.new) }
+        ReportedPart (FnReturnsAt F.Fn victim.now.pick) inputs.now.output inputs.now.image inputs.now.trace result (K.taken sink.old)
+        (K.taken sink.new) }
     ensures counted { result.status ≡ WRITE_FAULT → Rose (K.faults sink.old) (K.faults sink.new) }
     ensures memory_part { result.status ≡ MEMORY → 0 < result.written →
-        ReportedPart (FnReturnsAt F.Fn victim.now.pick) inputs.now.output inputs.now.image inputs.now.trace result (K.taken sink.old) (K.taken sink.new) }
+        ReportedPart (FnReturnsAt F.Fn victim.now.pick) inputs.now.output inputs.now.image inputs.now.trace result (K.taken sink.old)
+        (K.taken sink.new) }
     ensures memory_none { result.status ≡ MEMORY → result.written ≡ 0 →
         K.taken sink.new ≡ K.taken sink.old }
     ensures status { IsTrue (is_after_write result.status) }
@@ -92,12 +95,15 @@ pub(crate) fn replay<K: Sink, F: Fn(&[WayView]) -> u8 + Copy + Send>(
 ) -> Outcome
     requires { IsPolicy F.Fn victim.now.pick }
     ensures ok { result.status ≡ OK →
-        Reported (FnReturnsAt F.Fn victim.now.pick) inputs.now.output inputs.now.image inputs.now.trace result (K.taken sink.old) (K.taken sink.new) }
+        Reported (FnReturnsAt F.Fn victim.now.pick) inputs.now.output inputs.now.image inputs.now.trace result (K.taken sink.old)
+        (K.taken sink.new) }
     ensures write_fault { result.status ≡ WRITE_FAULT →
-        ReportedPart (FnReturnsAt F.Fn victim.now.pick) inputs.now.output inputs.now.image inputs.now.trace result (K.taken sink.old) (K.taken sink.new) }
+        ReportedPart (FnReturnsAt F.Fn victim.now.pick) inputs.now.output inputs.now.image inputs.now.trace result (K.taken sink.old)
+        (K.taken sink.new) }
     ensures counted { result.status ≡ WRITE_FAULT → Rose (K.faults sink.old) (K.faults sink.new) }
     ensures memory_part { result.status ≡ MEMORY → 0 < result.written →
-        ReportedPart (FnReturnsAt F.Fn victim.now.pick) inputs.now.output inputs.now.image inputs.now.trace result (K.taken sink.old) (K.taken sink.new) }
+        ReportedPart (FnReturnsAt F.Fn victim.now.pick) inputs.now.output inputs.now.image inputs.now.trace result (K.taken sink.old)
+        (K.taken sink.new) }
     ensures memory_none { result.status ≡ MEMORY → result.written ≡ 0 →
         K.taken sink.new ≡ K.taken sink.old }
     ensures spent { result.status ≡ SPENT →

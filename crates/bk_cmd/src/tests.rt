@@ -1,6 +1,5 @@
 use super::*;
-use crate::programs::{EI, MESI, MOESIF, MSI, UNCACHED, UNCACHED_KNOWN};
-use bk_check::Refusal;
+use crate::programs::{MESI, UNCACHED};
 use bk_lce::{Victim, WayView, oldest};
 use bk_outer::{MemShelf, MemSink};
 use std::alloc::Global;
@@ -84,7 +83,8 @@ pub(crate) fn asked(
     run_plain(alloc, words, shelf, sink, victim)
 }
 
-fn numbers(outcome: &Outcome) -> [u64; 6] {
+/// An outcome's numbers in order: status, file, place, column, kind, and how much was written.
+pub(crate) fn numbers(outcome: &Outcome) -> [u64; 6] {
     [
         outcome.status as u64,
         outcome.file as u64,
@@ -306,89 +306,16 @@ fn memory_and_spent_are_told(rt: HostRuntime) {
 }
 
 /// The words `verify a.bk`.
-fn verify_words(alloc: Global) -> Result<Vec<String>, Fail> {
+pub(crate) fn verify_words(alloc: Global) -> Result<Vec<String>, Fail> {
     words_of(alloc, &["verify", "a.bk"])
 }
 
 /// The outcome of `verify` on these bytes, over a sink that takes them whole, and what the sink then has.
-fn verified(alloc: Global, image: &[u8]) -> Result<(Outcome, MemSink), Fail> {
+pub(crate) fn verified(alloc: Global, image: &[u8]) -> Result<(Outcome, MemSink), Fail> {
     let mut shelf = shelf(alloc, image, "", Vec::new(alloc))?;
     let mut sink = sink(alloc);
     let outcome = asked(alloc, &verify_words(alloc)?, &mut shelf, &mut sink);
     Ok((outcome, sink))
-}
-
-#[test]
-fn accepted_programs(rt: HostRuntime) -> Result<(), Fail> {
-    let programs = [&EI[..], &MSI[..], &MESI[..], &MOESIF[..]];
-    for image in programs {
-        let (outcome, sink) = verified(rt.alloc(), image)?;
-        assert_eq!(rt; numbers(&outcome), [OK as u64, 0, 0, 0, 0, 9]);
-        assert!(rt; sink.bytes() == "accepted\n".as_bytes());
-        assert_eq!(rt; outcome.refusal, None);
-    }
-    Ok(())
-}
-
-/// The image with another word at a place.
-fn with_word(alloc: Global, image: &[u8], place: u8, word: u64) -> Result<Vec<u8>, Fail> {
-    let mut bytes = image.to_vec(alloc)?;
-    for (byte, value) in bytes
-        .iter_mut()
-        .skip(16 + 8 * place as usize)
-        .zip(word.to_le_bytes())
-    {
-        *byte = value;
-    }
-    Ok(bytes)
-}
-
-#[test]
-fn refused_programs(rt: HostRuntime) -> Result<(), Fail> {
-    // An image, a place and its new word; the instruction and the obligation of the refusal.
-    let cases = [
-        (&MESI[..], 62, 0x6102_0000_0000_0000, 62, 18),
-        (&MESI[..], 2, 0x5100_0000_0000_0000, 2, 9),
-        (&EI[..], 53, 0, 55, 14),
-        (&MESI[..], 95, 0, 96, 4),
-        (&MESI[..], 60, 0x2504_0100_0000_003e, 60, 4),
-        (&UNCACHED[..], 0, 0x5005_0000_0000_0000, 0, 1),
-        (&UNCACHED_KNOWN[..], 0, 0x5005_0000_0000_0000, 11, 11),
-    ];
-    for (image, place, word, at, obligation) in cases {
-        let changed = with_word(rt.alloc(), image, place, word)?;
-        let (outcome, sink) = verified(rt.alloc(), &changed)?;
-        assert_eq!(rt; numbers(&outcome), [REFUSED as u64, 0, 0, 0, 0, 0]);
-        assert_eq!(rt; outcome.refusal, Some(Refusal { at, obligation }));
-        assert_eq!(rt; sink.bytes().len(), 0);
-    }
-    Ok(())
-}
-
-#[test]
-fn a_refusal_is_told(rt: HostRuntime) -> Result<(), Fail> {
-    let (outcome, _sink) = verified(rt.alloc(), &UNCACHED_KNOWN)?;
-    assert!(rt; fault_line(&outcome).as_str() == "bedrock: refused at 11: O11");
-    Ok(())
-}
-
-#[test]
-fn damaged_images(rt: HostRuntime) -> Result<(), Fail> {
-    let alloc = rt.alloc();
-    let cut = UNCACHED.get(..100).ok_or("a hundred bytes")?;
-    let (outcome, _sink) = verified(alloc, cut)?;
-    assert_eq!(rt; numbers(&outcome), [MALFORMED as u64, 1, 100, 0, 11, 0]);
-    let mut longer = UNCACHED.to_vec(alloc)?;
-    longer.push(0)?;
-    let (outcome, _sink) = verified(alloc, &longer)?;
-    assert_eq!(rt; numbers(&outcome), [MALFORMED as u64, 1, 184, 0, 12, 0]);
-    // 277 instructions
-    let mut many = UNCACHED;
-    many[9] = 1;
-    let (outcome, _sink) = verified(alloc, &many)?;
-    assert_eq!(rt; numbers(&outcome), [TOO_LONG as u64, 1, 8, 0, 5, 0]);
-    assert!(rt; fault_line(&outcome).as_str() == "bedrock: too long file 1");
-    Ok(())
 }
 
 #[test]
@@ -412,94 +339,5 @@ fn files_without_bytes(rt: HostRuntime) -> Result<(), Fail> {
     assert_eq!(rt; numbers(&outcome), [READ_FAULT as u64, 1, 0, 0, 0, 0]);
     let (outcome, _sink) = verified(alloc, &Vec::from_elem(alloc, 0, 16_777_217)?)?;
     assert_eq!(rt; numbers(&outcome), [TOO_LONG as u64, 1, 0, 0, 0, 0]);
-    Ok(())
-}
-
-/// The outcome of a command on the one file `a.bk` of these bytes, over a sink that takes them whole, and what the sink then has.
-fn said(alloc: Global, words: &[&str], bytes: &[u8]) -> Result<(Outcome, MemSink), Fail> {
-    let mut shelf = shelf(alloc, bytes, "", Vec::new(alloc))?;
-    let mut sink = sink(alloc);
-    let outcome = asked(alloc, &words_of(alloc, words)?, &mut shelf, &mut sink);
-    Ok((outcome, sink))
-}
-
-#[test]
-fn assemblies(rt: HostRuntime) -> Result<(), Fail> {
-    let alloc = rt.alloc();
-    let asm = ["asm", "a.bk"];
-    let (outcome, sink) = said(alloc, &asm, b"nop\n")?;
-    assert_eq!(rt; numbers(&outcome), [OK as u64, 0, 0, 0, 0, 24]);
-    assert!(rt; sink.bytes() == NOP.as_slice());
-    // A text, and the line, the column and the kind of its fault.
-    let faults = [
-        ("bi x\n", 1, 4, 26),
-        ("; a", 1, 1, 29),
-        ("nop\n wfq rex", 2, 6, 22),
-    ];
-    for (text, line, column, kind) in faults {
-        let (outcome, sink) = said(alloc, &asm, text.as_bytes())?;
-        assert_eq!(rt;
-            numbers(&outcome),
-            [MALFORMED as u64, 1, line, column, kind, 0]
-        );
-        assert_eq!(rt; sink.bytes().len(), 0);
-    }
-    let mut long = String::new(alloc);
-    for _ in 0..257 {
-        long.push_str("nop\n")?;
-    }
-    let (outcome, _sink) = said(alloc, &asm, long.as_bytes())?;
-    assert_eq!(rt; numbers(&outcome), [TOO_LONG as u64, 1, 257, 1, 30, 0]);
-    assert!(rt; fault_line(&outcome).as_str() == "bedrock: too long file 1");
-    Ok(())
-}
-
-#[test]
-fn disassemblies(rt: HostRuntime) -> Result<(), Fail> {
-    let alloc = rt.alloc();
-    let (outcome, text) = said(alloc, &["dis", "a.bk"], &UNCACHED)?;
-    assert_eq!(rt; outcome.status, OK);
-    let beginning = "L000:\n  wfq resp,req\n  bk head Request L004\n";
-    assert!(rt; text.bytes().starts_with(beginning.as_bytes()));
-    let (outcome, sink) = said(alloc, &["dis", "a.bk"], b"BKUC")?;
-    assert_eq!(rt; numbers(&outcome), [MALFORMED as u64, 1, 4, 0, 11, 0]);
-    assert_eq!(rt; sink.bytes().len(), 0);
-    // The text of an image is a text of that image.
-    for image in [&UNCACHED[..], &UNCACHED_KNOWN[..], &MESI[..]] {
-        let (_outcome, text) = said(alloc, &["dis", "a.bk"], image)?;
-        let (outcome, again) = said(alloc, &["asm", "a.bk"], text.bytes())?;
-        assert_eq!(rt; outcome.status, OK);
-        assert!(rt; again.bytes() == image);
-    }
-    Ok(())
-}
-
-#[test]
-fn sources(rt: HostRuntime) -> Result<(), Fail> {
-    let alloc = rt.alloc();
-    let programs = [
-        ("ei", &EI[..]),
-        ("msi", &MSI[..]),
-        ("mesi", &MESI[..]),
-        ("moesif", &MOESIF[..]),
-    ];
-    for (name, image) in programs {
-        let (outcome, text) = said(alloc, &["proto", name], &[])?;
-        assert_eq!(rt; outcome.status, OK);
-        let (outcome, bytes) = said(alloc, &["asm", "a.bk"], text.bytes())?;
-        assert_eq!(rt; outcome.status, OK);
-        assert!(rt; bytes.bytes() == image);
-    }
-    Ok(())
-}
-
-#[test]
-fn a_verdict_that_is_not_taken(rt: HostRuntime) -> Result<(), Fail> {
-    let alloc = rt.alloc();
-    let mut shelf = shelf(alloc, &MESI, "", Vec::new(alloc))?;
-    let mut sink = MemSink::make(alloc, 4, vec![in alloc; 2]?);
-    let outcome = asked(alloc, &verify_words(alloc)?, &mut shelf, &mut sink);
-    assert_eq!(rt; numbers(&outcome), [WRITE_FAULT as u64, 0, 0, 0, 0, 4]);
-    assert!(rt; sink.bytes() == "acce".as_bytes());
     Ok(())
 }

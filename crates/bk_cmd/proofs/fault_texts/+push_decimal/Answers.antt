@@ -16,7 +16,8 @@ pub push_digit-requires-else-n-lt10-clause-room : goal.push_digit-requires-else-
 push_digit-requires-else-n-lt10-clause-room t c =
     let n = c.args.n in
     let fits : n < 2 ^ 64 = omega arith in
-    let has : length c.push_decimal.new.line.bytes ≡ length c.args.line.now.bytes + length (decimal (n / 10)) = ap length c.push_decimal.ensures ∙ length-append c.args.line.now.bytes (decimal (n / 10)) in
+    let has : length c.push_decimal.new.line.bytes ≡ length c.args.line.now.bytes + length (decimal (n / 10)) =
+    ap length c.push_decimal.ensures ∙ length-append c.args.line.now.bytes (decimal (n / 10)) in
     omega (arith, has, length-step n c.if-n-lt10.false fits)
 
 pub returns-then-n-lt10 : goal.returns-then-n-lt10

@@ -12,5 +12,6 @@ pub returns-clause-length : goal.returns-clause-length
 returns-clause-length c =
     let n = c.args.n in
     let fits : n < 2 ^ 64 = omega arith in
-    let has : length c.push_decimal.new.line.bytes ≡ length c.args.line.now.bytes + length (decimal n) = ap length c.push_decimal.ensures ∙ length-append c.args.line.now.bytes (decimal n) in
+    let has : length c.push_decimal.new.line.bytes ≡ length c.args.line.now.bytes + length (decimal n) =
+    ap length c.push_decimal.ensures ∙ length-append c.args.line.now.bytes (decimal n) in
     omega (arith, has, length-number n fits)

@@ -11,24 +11,29 @@ use Rattle.bk_cmd.proofs.replay.run.Goals as goal
 pub returns-clause-err : goal.returns-clause-err
 returns-clause-err g c =
     let same : c.budget-events_limit.result ≡ budget_for c.args.inputs.now.image c.args.inputs.now.trace = cc in
-    fault-told (FnReturnsAt g.F.Fn c.args.victim.now.pick) c.image-image.result.now c.args.inputs.now.image c.args.inputs.now.trace c.budget-events_limit.result
+    fault-told (FnReturnsAt g.F.Fn c.args.victim.now.pick) c.image-image.result.now c.args.inputs.now.image c.args.inputs.now.trace
+    c.budget-events_limit.result
     c.image-image.ensures.value same c.serial_report.result c.serial_report.ensures.fault
 
 pub returns-clause-ok : goal.returns-clause-ok
 returns-clause-ok g c =
     let same : c.budget-events_limit.result ≡ budget_for c.args.inputs.now.image c.args.inputs.now.trace = cc in
-    end-told (FnReturnsAt g.F.Fn c.args.victim.now.pick) c.image-image.result.now c.args.inputs.now.image c.args.inputs.now.trace c.budget-events_limit.result
+    end-told (FnReturnsAt g.F.Fn c.args.victim.now.pick) c.image-image.result.now c.args.inputs.now.image c.args.inputs.now.trace
+    c.budget-events_limit.result
     c.image-image.ensures.value same c.serial_report.result c.serial_report.ensures.ok
 
 pub returns-clause-coherent : goal.returns-clause-coherent
 returns-clause-coherent g c =
-    run-coherent (FnReturnsAt g.F.Fn c.args.victim.now.pick) c.args.inputs.now.image c.args.inputs.now.trace c.serial_report.result c.image-image.ensures.sound
+    run-coherent (FnReturnsAt g.F.Fn c.args.victim.now.pick) c.args.inputs.now.image c.args.inputs.now.trace c.serial_report.result
+    c.image-image.ensures.sound
     (subst InProfile c.config.ensures.value c.config.ensures.profile)
-    (subst (λ (lines : List (ℕ × Op)). All (λ line. IsLine c.args.inputs.now.trace.config.caches line) lines) c.lines.ensures.value c.lines.ensures.each)
+    (subst (λ (lines : List (ℕ × Op)). All (λ line. IsLine c.args.inputs.now.trace.config.caches line) lines) c.lines.ensures.value
+    c.lines.ensures.each)
     (returns-clause-ok g c)
 
 pub returns-clause-report : goal.returns-clause-report
 returns-clause-report g c =
     let same : c.budget-events_limit.result ≡ budget_for c.args.inputs.now.image c.args.inputs.now.trace = cc in
-    report-told (FnReturnsAt g.F.Fn c.args.victim.now.pick) c.image-image.result.now c.args.inputs.now.image c.args.inputs.now.trace c.budget-events_limit.result
+    report-told (FnReturnsAt g.F.Fn c.args.victim.now.pick) c.image-image.result.now c.args.inputs.now.image c.args.inputs.now.trace
+    c.budget-events_limit.result
     c.image-image.ensures.value same c.serial_report.result c.serial_report.ensures.report
