@@ -5,31 +5,31 @@ use Rattle.bk_isa.specs.declared.form.Form.{Form}
 use Rattle.bk_isa.specs.declared.form.Form.TheVariants as forms
 use Rattle.bk_isa.specs.declared.fields.Fields.{Fields}
 use Rattle.bk_isa.specs.declared.table.Allowed.{Allowed}
-use Rattle.bk_isa.specs.declared.table.Row.{Row}
+use Rattle.bk_isa.specs.declared.table.FieldRanges.{FieldRanges}
 use Rattle.bk_isa.specs.Fields.{fields_of}
-use Rattle.bk_isa.specs.Table.{admits, fault_by, row_of, value_set, target}
+use Rattle.bk_isa.specs.Table.{admits, fault_by, ranges_of, value_set, target}
 use Rattle.bk_isa.specs.Words.{IsInRange}
 use Rattle.bk_isa.proofs.Admitted.{AdmitsAll-from_none}
-use Rattle.bk_asm.specs.Operations.{shape, opcode}
+use Rattle.bk_asm.specs.Operations.{slots_of, opcode}
 use Rattle.bk_asm.specs.Mnemonics.{operation_of}
 use Rattle.bk_asm.specs.Ranges.{is_value, slot_ok, last_ok}
 use Rattle.bk_asm.specs.declared.names.Names.{Names}
 use Rattle.bk_asm.specs.declared.names.Names.TheVariants as names
 use Rattle.bk_asm.specs.declared.operation.Operation.{Operation}
 use Rattle.bk_asm.specs.declared.operation.Operation.TheVariants as operations
-use Rattle.bk_asm.specs.declared.operation.Slot.{Slot}
-use Rattle.bk_asm.specs.declared.operation.Slot.TheVariants as slots
-use Rattle.bk_asm.specs.declared.operation.Last.{Last}
-use Rattle.bk_asm.specs.declared.operation.Last.TheVariants as lasts
+use Rattle.bk_asm.specs.declared.slots.Slot.{Slot}
+use Rattle.bk_asm.specs.declared.slots.Slot.TheVariants as slots
+use Rattle.bk_asm.specs.declared.slots.Last.{Last}
+use Rattle.bk_asm.specs.declared.slots.Last.TheVariants as lasts
 use Rattle.bk_asm.proofs.InRange.{allowed, allowed_slot, allowed_last, row, the_row}
 use Rattle.bk_asm.proofs.Computed.{each_below, at_below}
 
 -- each operand is one of its slot
 pub record Fits (o : Operation) (p : Fields) : Type 0 where
-  pub a : slot_ok (shape o).a 0 p.a ≡ true
-  pub b : slot_ok (shape o).b p.a p.b ≡ true
-  pub c : slot_ok (shape o).c p.a p.c ≡ true
-  pub last : last_ok (shape o).last p.imm ≡ true
+  pub a : slot_ok (slots_of o).a 0 p.a ≡ true
+  pub b : slot_ok (slots_of o).b p.a p.b ≡ true
+  pub c : slot_ok (slots_of o).c p.a p.c ≡ true
+  pub last : last_ok (slots_of o).last p.imm ≡ true
 
 -- a number of a name is below 32
 bounded : (sort : Names) (n : ℕ) → admits (allowed sort) n ≡ true → n < 32
@@ -66,15 +66,17 @@ modus true b e f = e
 modus false b e f = absurd cc
 
 -- what the table of words admits is an operand of the slot
-slot_from : (slot : Slot) (f n : ℕ) → is_slot slot ≡ true → admits (allowed_slot slot f) n ≡ true → slot_ok slot f n ≡ true
-slot_from slots.Nothing f n z e = e
-slot_from (slots.Name sort) f n z e =
-    modus (admits (allowed sort) n) (is_value sort n) (at_below (λ n. not (admits (allowed sort) n) || is_value sort n) 32 n z (bounded sort n e)) e
-slot_from (slots.Perhaps sort) f n z e =
+slot_from : (slot : Slot) (number n : ℕ) → is_slot slot ≡ true → admits (allowed_slot slot number) n ≡ true
+    → slot_ok slot number n ≡ true
+slot_from slots.Nothing number n z e = e
+slot_from (slots.Name sort) number n z e =
+    modus (admits (allowed sort) n) (is_value sort n)
+    (at_below (λ n. not (admits (allowed sort) n) || is_value sort n) 32 n z (bounded sort n e)) e
+slot_from (slots.Perhaps sort) number n z e =
     modus (admits (allowed sort) n) (n == 0 || is_value sort n)
     (at_below (λ n. not (admits (allowed sort) n) || (n == 0 || is_value sort n)) 32 n z (bounded sort n e)) e
-slot_from slots.Classes f n z e = grind (arith, nat_tests, e)
-slot_from slots.Values f n z e = grind (arith, nat_tests, e)
+slot_from slots.Classes number n z e = grind (arith, nat_tests, e)
+slot_from slots.Values number n z e = grind (arith, nat_tests, e)
 
 -- what the table of words admits is a last operand
 last_from : (last : Last) (n : ℕ) → admits (allowed_last last) n ≡ true → last_ok last n ≡ true
@@ -84,7 +86,7 @@ last_from lasts.Number n e = grind (arith, nat_tests, e)
 last_from lasts.Target n e = grind (arith, nat_tests, e)
 
 -- the slots of each operation are such slots
-are_slots : (o : Operation) → (is_slot (shape o).a ≡ true) × (is_slot (shape o).b ≡ true) × (is_slot (shape o).c ≡ true)
+are_slots : (o : Operation) → (is_slot (slots_of o).a ≡ true) × (is_slot (slots_of o).b ≡ true) × (is_slot (slots_of o).c ≡ true)
 are_slots operations.Nop = (refl, refl, refl)
 are_slots operations.Add = (refl, refl, refl)
 are_slots operations.Sub = (refl, refl, refl)
@@ -136,15 +138,17 @@ are_slots operations.Memww = (refl, refl, refl)
 
 -- the first field of an operation's row in the table of words
 abbrev HasFirst : Operation → ℕ → Type 0
-HasFirst o a = (b : Allowed) × (c : Allowed) × (imm : Allowed) × (row_of (opcode o) a ≡ Some (row (allowed_slot (shape o).a 0) b c imm))
+HasFirst o a = (b : Allowed) × (c : Allowed) × (imm : Allowed)
+    × (ranges_of (opcode o) a ≡ Some (row (allowed_slot (slots_of o).a 0) b c imm))
 
 -- the row whose fields are those of the slots
-abbrev slots_row : Operation → ℕ → Row
-slots_row o a = row (allowed_slot (shape o).a 0) (allowed_slot (shape o).b a) (allowed_slot (shape o).c a) (allowed_last (shape o).last)
+abbrev slots_row : Operation → ℕ → FieldRanges
+slots_row o a = row (allowed_slot (slots_of o).a 0) (allowed_slot (slots_of o).b a) (allowed_slot (slots_of o).c a)
+    (allowed_last (slots_of o).last)
 
 -- its first field is then the first slot
-by_slots : (o : Operation) (a : ℕ) → row_of (opcode o) a ≡ Some (slots_row o a) → HasFirst o a
-by_slots o a e = (allowed_slot (shape o).b a, allowed_slot (shape o).c a, allowed_last (shape o).last, e)
+by_slots : (o : Operation) (a : ℕ) → ranges_of (opcode o) a ≡ Some (slots_row o a) → HasFirst o a
+by_slots o a e = (allowed_slot (slots_of o).b a, allowed_slot (slots_of o).c a, allowed_last (slots_of o).last, e)
 
 -- so it is of each operation; the values of `bk` depend on its field
 first_of_row : (o : Operation) (a : ℕ) → HasFirst o a
@@ -249,20 +253,21 @@ code_is forms.Memwb = refl
 code_is forms.Memww = refl
 
 -- fields without a fault fit the operation
-fits_by : (o : Operation) (p : Fields) → fault_by p (row_of (opcode o) p.a) ≡ None → Fits o p
+fits_by : (o : Operation) (p : Fields) → fault_by p (ranges_of (opcode o) p.a) ≡ None → Fits o p
 fits_by o p e =
     let s = are_slots o in
     let r = first_of_row o p.a in
-    let one = AdmitsAll-from_none (row (allowed_slot (shape o).a 0) r.0 r.1 r.2) p (sym (ap (fault_by p) r.3) ∙ e) in
-    let a = slot_from (shape o).a 0 p.a s.0 one.a in
+    let one = AdmitsAll-from_none (row (allowed_slot (slots_of o).a 0) r.0 r.1 r.2) p (sym (ap (fault_by p) r.3) ∙ e) in
+    let a = slot_from (slots_of o).a 0 p.a s.0 one.a in
     let all = AdmitsAll-from_none (slots_row o p.a) p (sym (ap (fault_by p) (the_row o p.a a)) ∙ e) in
     record {
       a = a;
-      b = slot_from (shape o).b p.a p.b s.1 all.b;
-      c = slot_from (shape o).c p.a p.c s.2 all.c;
-      last = last_from (shape o).last p.imm all.imm;
+      b = slot_from (slots_of o).b p.a p.b s.1 all.b;
+      c = slot_from (slots_of o).c p.a p.c s.2 all.c;
+      last = last_from (slots_of o).last p.imm all.imm;
     }
 
 -- an instruction's operands fit its operation
 pub fits : (f : Form) → IsInRange f → Fits (operation_of f) (fields_of f)
-fits f h = fits_by (operation_of f) (fields_of f) (ap (λ op. fault_by (fields_of f) (row_of op (fields_of f).a)) (sym (code_is f)) ∙ h.row)
+fits f h = fits_by (operation_of f) (fields_of f) (ap (λ op. fault_by (fields_of f) (ranges_of op (fields_of f).a)) (sym (code_is f))
+    ∙ h.admitted)

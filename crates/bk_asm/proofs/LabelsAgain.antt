@@ -16,21 +16,21 @@ use Rattle.bk_isa.specs.declared.form.Form.{Form}
 use Rattle.bk_isa.specs.Fields.{fields_of, form_of, fields_with}
 use Rattle.bk_isa.specs.Words.{IsInRange}
 use Rattle.bk_isa.proofs.Forms.{form_of-fields_of}
-use Rattle.bk_text.proofs.Rows.{tested}
-use Rattle.bk_asm.specs.declared.operation.Last.{Last}
-use Rattle.bk_asm.specs.declared.operation.Last.TheVariants as lasts
+use Rattle.bk_text.specs.Faults.{◌>>=◌, Bad}
+use Rattle.bk_text.proofs.LineWords.{tested}
+use Rattle.bk_asm.specs.declared.slots.Last.{Last}
+use Rattle.bk_asm.specs.declared.slots.Last.TheVariants as lasts
 use Rattle.bk_asm.specs.Again.{goes_inside}
-use Rattle.bk_asm.specs.Faults.{Bad}
 use Rattle.bk_asm.specs.Names.{Naming}
-use Rattle.bk_asm.specs.Operations.{shape, opcode}
+use Rattle.bk_asm.specs.Operations.{slots_of, opcode}
 use Rattle.bk_asm.specs.Mnemonics.{operation_of}
 use Rattle.bk_asm.specs.Programs.{Statement, form_with}
 use Rattle.bk_asm.specs.Ranges.{is_target, last_ok}
-use Rattle.bk_asm.specs.Reading.{◌>>=◌, place_of, on_line, defined_at, form_at, forms_at}
+use Rattle.bk_asm.specs.Reading.{place_of, on_line, defined_at, form_at, forms_at}
 use Rattle.bk_asm.specs.Writing.{goes_to, label_text}
 use Rattle.bk_asm.proofs.Computed.{same_place}
 use Rattle.bk_asm.proofs.Fitting.{fits, code_is}
-use Rattle.bk_asm.proofs.FormAgain.{imm_of, use_of, statement_of}
+use Rattle.bk_asm.proofs.OperandsAgain.{imm_of, use_of, statement_of}
 
 -- ---- a label more
 
@@ -59,7 +59,8 @@ other_name q name other differs is = elim (tested (bytes_eq q name)) [
 ]
 
 -- the same for one more label, by where it goes
-inserted_by : (o : Ordering) (q : List ℕ) (l : Naming) (name : List ℕ) (v : ℕ) (labels more : List Naming) → is_eq o ≡ bytes_eq name l.0
+inserted_by : (o : Ordering) (q : List ℕ) (l : Naming) (name : List ℕ) (v : ℕ) (labels more : List Naming)
+    → is_eq o ≡ bytes_eq name l.0
     → place_of more q ≡ cond (bytes_eq q name) (Some v) (place_of labels q)
     → place_of (match_ordering o ((name, v) ∷ l ∷ labels) ((l.0, v) ∷ labels) (l ∷ more)) q
     ≡ cond (bytes_eq q name) (Some v) (place_of (l ∷ labels) q)
@@ -93,7 +94,8 @@ found_by : (goes : Bool) (p q : ℕ) → q ≡ p → goes ≡ true → Some p �
 found_by goes p q same e = rw (e, same) (grind (arith, nat_tests))
 
 -- another place is found as before
-found_as : (goes : Bool) (p q : ℕ) → (q ≡ p → goes ≡ false) → cond (nat_lt q p && goes) (Some q) None ≡ cond (nat_lt q (p + 1) && goes) (Some q) None
+found_as : (goes : Bool) (p q : ℕ) → (q ≡ p → goes ≡ false) → cond (nat_lt q p && goes) (Some q) None
+    ≡ cond (nat_lt q (p + 1) && goes) (Some q) None
 found_as true p q h = elim (tested (q == p)) [
   | inl is ↦ let no : true ≡ false = h (eqb-true q p is) in absurd cc
   | inr not ↦ grind (arith, nat_tests, not)
@@ -101,7 +103,8 @@ found_as true p q h = elim (tested (q == p)) [
 found_as false p q h = grind (arith, nat_tests)
 
 -- one more place that a branch goes to
-pub one_label : (forms : List Form) (p : ℕ) (labels : List Naming) → p < 256 → list_any (goes_to p) forms ≡ true → AreLabels forms p labels
+pub one_label : (forms : List Form) (p : ℕ) (labels : List Naming) → p < 256 → list_any (goes_to p) forms ≡ true
+    → AreLabels forms p labels
     → AreLabels forms (p + 1) (insert_entry (slice_cmp nat_cmp) labels (label_text p) p)
 one_label forms p labels lt goes h q small =
     place_inserted (label_text q) labels (label_text p) p
@@ -113,7 +116,8 @@ one_label forms p labels lt goes h q small =
       | inr not ↦
           ap (λ b. cond b (Some p) (place_of labels (label_text q))) not ∙ h q small
           ∙ found_as (list_any (goes_to q) forms) p q (λ same.
-          let yes : bytes_eq (label_text q) (label_text p) ≡ true = (bytes_eq-Decides (label_text q) (label_text p)).1 (ap label_text same) in
+          let yes : bytes_eq (label_text q) (label_text p) ≡ true =
+          (bytes_eq-Decides (label_text q) (label_text p)).1 (ap label_text same) in
           absurd cc)
     ]
 
@@ -131,7 +135,7 @@ not_yet forms p = grind (arith, nat_tests)
 
 -- an instruction of a text is a form, but for the place of its label
 abbrev pub IsOf : Statement → Form → Type 0
-IsOf s f = (line : ℕ) × (column : ℕ) × (s ≡ statement_of line column (operation_of f) (fields_of f))
+IsOf statement f = (line : ℕ) × (column : ℕ) × (statement ≡ statement_of line column (operation_of f) (fields_of f))
 
 -- the same for lists
 abbrev pub AreOf : List Statement → List Form → Type 0
@@ -147,11 +151,12 @@ same_length [] (f ∷ fs) h = absurd h
 same_length (s ∷ ss) [] h = absurd h
 
 -- one more instruction and form
-pub one_of_more : (ss : List Statement) (fs : List Form) (s : Statement) (f : Form) → AreOf ss fs → IsOf s f → AreOf (ss ++ s ∷ []) (fs ++ f ∷ [])
-one_of_more [] [] s f h one = (one, tt)
-one_of_more (t ∷ ss) (g ∷ fs) s f h one = (h.0, one_of_more ss fs s f h.1 one)
-one_of_more [] (g ∷ fs) s f h one = absurd h
-one_of_more (t ∷ ss) [] s f h one = absurd h
+pub one_of_more : (ss : List Statement) (fs : List Form) (statement : Statement) (f : Form) → AreOf ss fs → IsOf statement f
+    → AreOf (ss ++ statement ∷ []) (fs ++ f ∷ [])
+one_of_more [] [] statement f h one = (one, tt)
+one_of_more (t ∷ ss) (g ∷ fs) statement f h one = (h.0, one_of_more ss fs statement f h.1 one)
+one_of_more [] (g ∷ fs) statement f h one = absurd h
+one_of_more (t ∷ ss) [] statement f h one = absurd h
 
 -- a label that is defined gives the form; else the fault is of kind 26
 abbrev pub IsResolved : {X : Type 0} → Bool → X → Result X Bad → Type 0
@@ -159,25 +164,28 @@ IsResolved true x r = r ≡ Ok x
 IsResolved false x r = (line : ℕ) × (column : ℕ) × (r ≡ Err (record { line = line; column = column; kind = 26 }))
 
 -- a use of a label, by whether its place is one of those that were found
-found_inside : (inside goes : Bool) (n : ℕ) (o : Option ℕ) (line column : ℕ) (s : Statement) → goes ≡ true → o ≡ cond (inside && goes) (Some n) None
-    → IsResolved inside (form_with s n) (on_line line (defined_at column o) >>= λ place. Ok (form_with s place))
-found_inside true goes n o line column s e is = rw (is, e) refl
-found_inside false goes n o line column s e is = (line, column, rw is refl)
+found_inside : (inside goes : Bool) (n : ℕ) (o : Option ℕ) (line column : ℕ) (statement : Statement) → goes ≡ true
+    → o ≡ cond (inside && goes) (Some n) None
+    → IsResolved inside (form_with statement n) (on_line line (defined_at column o) >>= λ place. Ok (form_with statement place))
+found_inside true goes n o line column statement e is = rw (is, e) refl
+found_inside false goes n o line column statement e is = (line, column, rw is refl)
 
 -- the target of an instruction, by its last operand
-resolved_by : (l : Last) (labels : List Naming) (forms : List Form) (count line column n : ℕ) (s : Statement) → s.imm ≡ imm_of l n
+resolved_by : (l : Last) (labels : List Naming) (forms : List Form) (count line column n : ℕ) (statement : Statement)
+    → statement.imm ≡ imm_of l n
     → last_ok l n ≡ true
     → (is_target l ≡ true → list_any (goes_to n) forms ≡ true) → AreLabels forms count labels
-    → IsResolved (not (is_target l) || nat_lt n count) (form_with s n) (form_at labels s (use_of l line column n))
-resolved_by lasts.Nothing labels forms count line column n s e ok goes h = ap (λ k. Ok (form_with s k)) e
-resolved_by lasts.Shift labels forms count line column n s e ok goes h = ap (λ k. Ok (form_with s k)) e
-resolved_by lasts.Number labels forms count line column n s e ok goes h = ap (λ k. Ok (form_with s k)) e
-resolved_by lasts.Target labels forms count line column n s e ok goes h =
-    found_inside (nat_lt n count) (list_any (goes_to n) forms) n (place_of labels (label_text n)) line column s (goes refl)
+    → IsResolved (not (is_target l) || nat_lt n count) (form_with statement n) (form_at labels statement (use_of l line column n))
+resolved_by lasts.Nothing labels forms count line column n statement e ok goes h = ap (λ k. Ok (form_with statement k)) e
+resolved_by lasts.Shift labels forms count line column n statement e ok goes h = ap (λ k. Ok (form_with statement k)) e
+resolved_by lasts.Number labels forms count line column n statement e ok goes h = ap (λ k. Ok (form_with statement k)) e
+resolved_by lasts.Target labels forms count line column n statement e ok goes h =
+    found_inside (nat_lt n count) (list_any (goes_to n) forms) n (place_of labels (label_text n)) line column statement (goes refl)
     (h n (grind (arith, nat_tests, ok)))
 
 -- the form of the fields of a form
-form_same : (f : Form) → form_of (fields_with (opcode (operation_of f)) (fields_of f).a (fields_of f).b (fields_of f).c (fields_of f).imm) ≡ f
+form_same : (f : Form)
+    → form_of (fields_with (opcode (operation_of f)) (fields_of f).a (fields_of f).b (fields_of f).c (fields_of f).imm) ≡ f
 form_same f = ap (λ op. form_of (fields_with op (fields_of f).a (fields_of f).b (fields_of f).c (fields_of f).imm)) (sym (code_is f))
     ∙ form_of-fields_of f
 
@@ -187,28 +195,31 @@ either true b e = refl
 either false b e = e
 
 -- one of a list passes
-any_at : (p : Form → Bool) (front : List Form) (f : Form) (more : List Form) → p f ≡ true → list_any p (front ++ f ∷ more) ≡ true
+any_at : (p : Form → Bool) (front : List Form) (f : Form) (more : List Form) → p f ≡ true
+    → list_any p (front ++ f ∷ more) ≡ true
 any_at p [] f more e = ap (λ t. t || list_any p more) e
 any_at p (g ∷ front) f more e = either (p g) (list_any p (front ++ f ∷ more)) (any_at p front f more e)
 
 -- a branch goes to its own target
-goes_there : (f : Form) → is_target (shape (operation_of f)).last ≡ true → goes_to (fields_of f).imm f ≡ true
+goes_there : (f : Form) → is_target (slots_of (operation_of f)).last ≡ true → goes_to (fields_of f).imm f ≡ true
 goes_there f e = ap (λ t. t && (fields_of f).imm == (fields_of f).imm) e ∙ grind (arith, nat_tests)
 
 -- an instruction of the text, with the labels of all places
-resolved_one : (labels : List Naming) (forms front : List Form) (f : Form) (more : List Form) (count : ℕ) (s : Statement)
-    → forms ≡ front ++ f ∷ more → IsInRange f → IsOf s f → AreLabels forms count labels
-    → IsResolved (goes_inside count f) f (form_at labels s s.target)
-resolved_one labels forms front f more count s is range one h =
+resolved_one : (labels : List Naming) (forms front : List Form) (f : Form) (more : List Form) (count : ℕ) (statement : Statement)
+    → forms ≡ front ++ f ∷ more → IsInRange f → IsOf statement f → AreLabels forms count labels
+    → IsResolved (goes_inside count f) f (form_at labels statement statement.target)
+resolved_one labels forms front f more count statement is range one h =
     let t = statement_of one.0 one.1 (operation_of f) (fields_of f) in
-    let goes : is_target (shape (operation_of f)).last ≡ true → list_any (goes_to (fields_of f).imm) forms ≡ true =
+    let goes : is_target (slots_of (operation_of f)).last ≡ true → list_any (goes_to (fields_of f).imm) forms ≡ true =
     λ e. ap (list_any (goes_to (fields_of f).imm)) is ∙ any_at (goes_to (fields_of f).imm) front f more (goes_there f e) in
-    let r = resolved_by (shape (operation_of f)).last labels forms count one.0 one.1 (fields_of f).imm t refl (fits f range).last goes h in
-    subst (λ (s : Statement). IsResolved (goes_inside count f) f (form_at labels s s.target)) (sym one.2)
-    (subst (λ (g : Form). IsResolved (goes_inside count f) g (form_at labels t t.target)) (form_same f) r)
+    let r = resolved_by (slots_of (operation_of f)).last labels forms count one.0 one.1 (fields_of f).imm t refl
+    (fits f range).last goes h in
+    subst (λ (statement : Statement). IsResolved (goes_inside count f) f (form_at labels statement statement.target)) (sym one.2)
+    (subst (λ (other : Form). IsResolved (goes_inside count f) other (form_at labels t t.target)) (form_same f) r)
 
 -- one more instruction: the first fault is answered
-resolved_more : (a b : Bool) (f : Form) (fs : List Form) (r : Result Form Bad) (rs : Result (List Form) Bad) → IsResolved a f r → IsResolved b fs rs
+resolved_more : (a b : Bool) (f : Form) (fs : List Form) (r : Result Form Bad) (rs : Result (List Form) Bad) → IsResolved a f r
+    → IsResolved b fs rs
     → IsResolved (a && b) (f ∷ fs) (r >>= λ form. rs >>= λ forms. Ok (form ∷ forms))
 resolved_more true true f fs r rs e es = rw (e, es) refl
 resolved_more true false f fs r rs e es = (es.0, es.1, rw (e, es.2) refl)

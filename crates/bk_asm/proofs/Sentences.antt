@@ -1,17 +1,17 @@
 -- The lines of a canonical text, and their words.
-use Rattle.std.proofs.Common.{◌≡◌, ℕ, zero, suc, ◌+◌, ◌-◌, ◌<◌, Bool, true, false, not, ◌&&◌, ◌||◌, cond, List, [], ◌∷◌, ◌++◌, length, get_or, take, refl, sym, ap, ◌∙◌, append_assoc, arith}
+use Rattle.std.proofs.Common.{◌≡◌, ℕ, ◌+◌, Bool, true, false, not, ◌&&◌, ◌||◌, List, [], ◌∷◌, ◌++◌, length, refl, sym, ap, ◌∙◌, append_assoc, arith}
 use Rattle.std.specs.Prelude.{None, nat_le, nat_lt, ◌==◌}
-use Rattle.std.specs.List.{list_all, slice_split, onto_first, position_or_len}
-use Rattle.std.specs.Str.Lines.{lines, lines_of_parts}
+use Rattle.std.specs.List.{list_all, position_or_len}
+use Rattle.std.specs.Str.Lines.{lines}
+use Rattle.std.proofs.lemmas.Bool.{and_parts, and_from}
 use Rattle.std.proofs.lemmas.Bool.Decides.{nat_tests}
 use Rattle.std.proofs.lemmas.List.{take_all, drop_all, append-nil}
-use Rattle.std.proofs.lemmas.List.Splits.{length-slice_split}
 use Rattle.bk_text.specs.Texts.{is_blank, is_nonempty, before_comment, comment_of}
-use Rattle.bk_text.specs.Rows.{Marked, LineWords, words_from, onto_words, ends_word, bad_from, row_of}
-use Rattle.bk_text.proofs.Rows.{words_from-blank, words_from-byte, words_from-nothing}
-use Rattle.bk_text.proofs.Cuts.{lines_of_parts-cons}
+use Rattle.bk_text.specs.LineWords.{Marked, LineWords, words_from, onto_words, ends_word, bad_from, whole_line}
+use Rattle.bk_text.proofs.LineWords.{words_from-blank, words_from-byte, words_from-nothing}
+use Rattle.bk_text.proofs.Joined as texts
+use Rattle.bk_text.proofs.Joined.{implied, all_append, position_none}
 use Rattle.bk_asm.specs.Reading.{row_at}
-use Rattle.bk_asm.proofs.Named.{and_parts}
 
 -- a byte of a word: printable, neither a blank nor the mark of a comment
 abbrev pub is_plain : ℕ → Bool
@@ -44,23 +44,6 @@ abbrev pub past : ℕ → List (List ℕ) → ℕ
 past c [] = c
 past c (w ∷ ws) = past (c + (length w + 1)) ws
 
--- two tests that pass
-pub both : (a b : Bool) → a ≡ true → b ≡ true → a && b ≡ true
-both true b e f = f
-both false b e f = absurd cc
-
--- the negation of a test that passes
-fails : (b : Bool) → not b ≡ true → b ≡ false
-fails true e = absurd cc
-fails false e = refl
-
--- what passes one test passes one that follows from it
-implied : (p q : ℕ → Bool) → ((b : ℕ) → p b ≡ true → q b ≡ true) → (bytes : List ℕ) → list_all p bytes ≡ true → list_all q bytes ≡ true
-implied p q h [] e = refl
-implied p q h (b ∷ bytes) e =
-    let t = and_parts (p b) (list_all p bytes) e in
-    both (q b) (list_all q bytes) (h b t.0) (implied p q h bytes t.1)
-
 -- a byte of a word may stand in a line
 plain_is_quiet : (b : ℕ) → is_plain b ≡ true → is_quiet b ≡ true
 plain_is_quiet b e = ap (λ t. t || b == 32) e
@@ -81,28 +64,23 @@ quiet_no_mark b e = grind (arith, nat_tests)
 quiet_no_return : (b : ℕ) → is_quiet b ≡ true → (b == 13) ≡ false
 quiet_no_return b e = grind (arith, nat_tests)
 
--- a test of each byte of two texts, one behind the other
-all_append : (p : ℕ → Bool) (xs ys : List ℕ) → list_all p xs ≡ true → list_all p ys ≡ true → list_all p (xs ++ ys) ≡ true
-all_append p [] ys a b = b
-all_append p (x ∷ xs) ys a b =
-    let t = and_parts (p x) (list_all p xs) a in
-    both (p x) (list_all p (xs ++ ys)) t.0 (all_append p xs ys t.1 b)
-
 -- ---- the words of a line
 
 -- a word, and what follows it
-word_first : (c : ℕ) (w rest : List ℕ) → is_nonempty w ≡ true → list_all is_plain w ≡ true → ends_word rest ≡ true
-    → words_from c (w ++ rest) ≡ marked c w ∷ words_from (c + length w) rest
+word_first : (c : ℕ) (word rest : List ℕ) → is_nonempty word ≡ true → list_all is_plain word ≡ true → ends_word rest ≡ true
+    → words_from c (word ++ rest) ≡ marked c word ∷ words_from (c + length word) rest
 word_first c [] rest some plain ends = absurd cc
 word_first c (b ∷ []) rest some plain ends =
-    words_from-byte c b rest (plain_no_blank b (and_parts (is_plain b) true plain).0) ∙ ap (λ t. onto_words c b t (words_from (c + 1) rest)) ends
-word_first c (b ∷ d ∷ w) rest some plain ends =
-    let t = and_parts (is_plain b) (list_all is_plain (d ∷ w)) plain in
-    let no : is_blank d ≡ false = plain_no_blank d (and_parts (is_plain d) (list_all is_plain w) t.1).0 in
-    let column : (c + 1) + length (d ∷ w) ≡ c + length (b ∷ d ∷ w) = omega arith in
-    words_from-byte c b (d ∷ (w ++ rest)) (plain_no_blank b t.0) ∙ ap (λ t. onto_words c b t (words_from (c + 1) (d ∷ (w ++ rest)))) no
-    ∙ ap (onto_words c b false) (word_first (c + 1) (d ∷ w) rest refl t.1 ends)
-    ∙ ap (λ k. marked c (b ∷ d ∷ w) ∷ words_from k rest) column
+    words_from-byte c b rest (plain_no_blank b (and_parts (is_plain b) true plain).0)
+    ∙ ap (λ t. onto_words c b t (words_from (c + 1) rest)) ends
+word_first c (b ∷ d ∷ word) rest some plain ends =
+    let t = and_parts (is_plain b) (list_all is_plain (d ∷ word)) plain in
+    let no : is_blank d ≡ false = plain_no_blank d (and_parts (is_plain d) (list_all is_plain word) t.1).0 in
+    let column : (c + 1) + length (d ∷ word) ≡ c + length (b ∷ d ∷ word) = omega arith in
+    words_from-byte c b (d ∷ (word ++ rest)) (plain_no_blank b t.0)
+    ∙ ap (λ t. onto_words c b t (words_from (c + 1) (d ∷ (word ++ rest)))) no
+    ∙ ap (onto_words c b false) (word_first (c + 1) (d ∷ word) rest refl t.1 ends)
+    ∙ ap (λ k. marked c (b ∷ d ∷ word) ∷ words_from k rest) column
 
 -- a word ends where spaced words follow
 spaced_ends : (ws : List (List ℕ)) → ends_word (spaced ws) ≡ true
@@ -120,15 +98,17 @@ spaced_words c (w ∷ ws) e =
     ∙ ap (λ l. marked (c + 1) w ∷ l) (spaced_words ((c + 1) + length w) ws t.1 ∙ ap (λ k. marks k ws) column)
 
 -- a word alone
-pub word_alone : (c : ℕ) (w : List ℕ) → is_word w ≡ true → words_from c w ≡ marked c w ∷ []
-word_alone c w e =
-    let s = and_parts (is_nonempty w) (list_all is_plain w) e in
-    ap (words_from c) (sym (append-nil w)) ∙ word_first c w [] s.0 s.1 refl ∙ ap (λ l. marked c w ∷ l) (words_from-nothing (c + length w))
+pub word_alone : (c : ℕ) (word : List ℕ) → is_word word ≡ true → words_from c word ≡ marked c word ∷ []
+word_alone c word e =
+    let s = and_parts (is_nonempty word) (list_all is_plain word) e in
+    ap (words_from c) (sym (append-nil word)) ∙ word_first c word [] s.0 s.1 refl
+    ∙ ap (λ l. marked c word ∷ l) (words_from-nothing (c + length word))
 
 -- the text of two lists of words
 pub spaced_append : (xs ys : List (List ℕ)) → spaced (xs ++ ys) ≡ spaced xs ++ spaced ys
 spaced_append [] ys = refl
-spaced_append (x ∷ xs) ys = ap (λ l. 32 ∷ (x ++ l)) (spaced_append xs ys) ∙ ap (λ l. 32 ∷ l) (sym (append_assoc x (spaced xs) (spaced ys)))
+spaced_append (x ∷ xs) ys = ap (λ l. 32 ∷ (x ++ l)) (spaced_append xs ys)
+    ∙ ap (λ l. 32 ∷ l) (sym (append_assoc x (spaced xs) (spaced ys)))
 
 -- two lists of words, with their columns
 pub marks_append : (c : ℕ) (xs ys : List (List ℕ)) → marks c (xs ++ ys) ≡ marks c xs ++ marks (past c xs) ys
@@ -136,15 +116,16 @@ marks_append c [] ys = refl
 marks_append c (x ∷ xs) ys = ap (λ l. marked c x ∷ l) (marks_append (c + (length x + 1)) xs ys)
 
 -- two lists of words are words
-pub words_append : (xs ys : List (List ℕ)) → list_all is_word xs ≡ true → list_all is_word ys ≡ true → list_all is_word (xs ++ ys) ≡ true
+pub words_append : (xs ys : List (List ℕ)) → list_all is_word xs ≡ true → list_all is_word ys ≡ true
+    → list_all is_word (xs ++ ys) ≡ true
 words_append [] ys a b = b
 words_append (x ∷ xs) ys a b =
     let t = and_parts (is_word x) (list_all is_word xs) a in
-    both (is_word x) (list_all is_word (xs ++ ys)) t.0 (words_append xs ys t.1 b)
+    and_from (is_word x) (list_all is_word (xs ++ ys)) t.0 (words_append xs ys t.1 b)
 
 -- the bytes of a word may stand in a line
-pub word_quiet : (w : List ℕ) → is_word w ≡ true → list_all is_quiet w ≡ true
-word_quiet w e = implied is_plain is_quiet plain_is_quiet w (and_parts (is_nonempty w) (list_all is_plain w) e).1
+pub word_quiet : (word : List ℕ) → is_word word ≡ true → list_all is_quiet word ≡ true
+word_quiet word e = implied is_plain is_quiet plain_is_quiet word (and_parts (is_nonempty word) (list_all is_plain word) e).1
 
 -- the bytes of words with blanks may stand in a line
 pub spaced_quiet : (ws : List (List ℕ)) → list_all is_word ws ≡ true → list_all is_quiet (spaced ws) ≡ true
@@ -155,21 +136,15 @@ spaced_quiet (w ∷ ws) e =
 
 -- ---- lines
 
--- no byte passes, so the first that does is behind the last
-position_none : (p : ℕ → Bool) (bytes : List ℕ) → list_all (λ b. not (p b)) bytes ≡ true → position_or_len p bytes ≡ length bytes
-position_none p [] e = refl
-position_none p (b ∷ bytes) e =
-    let t = and_parts (not (p b)) (list_all (λ b. not (p b)) bytes) e in
-    ap (λ t. cond (not t) (1 + position_or_len p bytes) 0) (fails (p b) t.0) ∙ omega (arith, position_none p bytes t.1)
-
 -- what is left of a line without a comment
 abbrev pub row : List Marked → ℕ → LineWords
 row words end = record { words = words; bad = None; end = end }
 
 -- a line by its parts before and behind the mark of a comment
 row_by : (line before comment : List ℕ) → before_comment 59 line ≡ before → comment_of 59 line ≡ comment
-    → row_of 59 line ≡ record { words = words_from 1 before; bad = bad_from (length before + 1) comment; end = length line + 1 }
-row_by line before comment b c = ap (λ x. record { words = words_from 1 x; bad = bad_from (length x + 1) (comment_of 59 line); end = length line + 1 }) b
+    → whole_line 59 line ≡ record { words = words_from 1 before; bad = bad_from (length before + 1) comment; end = length line + 1 }
+row_by line before comment b c =
+    ap (λ x. record { words = words_from 1 x; bad = bad_from (length x + 1) (comment_of 59 line); end = length line + 1 }) b
     ∙ ap (λ x. record { words = words_from 1 before; bad = bad_from (length before + 1) x; end = length line + 1 }) c
 
 -- a line without a comment
@@ -181,31 +156,13 @@ row_is line e =
     row_by line line [] before comment
 
 -- a line of words that begins with two blanks
-pub row_words : (ws : List (List ℕ)) → list_all is_word ws ≡ true → row_at (32 ∷ spaced ws) ≡ row (marks 3 ws) (length (32 ∷ spaced ws) + 1)
+pub row_words : (ws : List (List ℕ)) → list_all is_word ws ≡ true
+    → row_at (32 ∷ spaced ws) ≡ row (marks 3 ws) (length (32 ∷ spaced ws) + 1)
 row_words ws e =
     row_is (32 ∷ spaced ws) (spaced_quiet ws e)
     ∙ ap (λ l. row l (length (32 ∷ spaced ws) + 1)) (words_from-blank 1 32 (spaced ws) refl ∙ spaced_words 2 ws e)
 
--- a separator behind bytes of which none is one
-split_at : (p : ℕ → Bool) (sep : ℕ) (rest : List ℕ) → p sep ≡ true → (bytes : List ℕ) → list_all (λ b. not (p b)) bytes ≡ true
-    → slice_split p (bytes ++ sep ∷ rest) ≡ bytes ∷ slice_split p rest
-split_at p sep rest is [] e = ap (λ t. cond t ([] ∷ slice_split p rest) (onto_first sep (slice_split p rest))) is
-split_at p sep rest is (b ∷ bytes) e =
-    let t = and_parts (not (p b)) (list_all (λ b. not (p b)) bytes) e in
-    ap (λ t. cond t ([] ∷ slice_split p (bytes ++ sep ∷ rest)) (onto_first b (slice_split p (bytes ++ sep ∷ rest)))) (fails (p b) t.0)
-    ∙ ap (onto_first b) (split_at p sep rest is bytes t.1)
-
--- no byte of a line is a carriage return
-no_return : (bytes : List ℕ) (i : ℕ) → list_all is_quiet bytes ≡ true → (get_or bytes i 0 == 13) ≡ false
-no_return [] i e = refl
-no_return (b ∷ bytes) zero e = quiet_no_return b (and_parts (is_quiet b) (list_all is_quiet bytes) e).0
-no_return (b ∷ bytes) (suc i) e = no_return bytes i (and_parts (is_quiet b) (list_all is_quiet bytes) e).1
-
 -- a line that LF ends
-pub line_again : (bytes rest : List ℕ) → list_all is_quiet bytes ≡ true → lines ((bytes ++ 10 ∷ []) ++ rest) ≡ bytes ∷ lines rest
-line_again bytes rest e =
-    let some : 0 < length (slice_split (λ b. b == 10) rest) = omega (arith, length-slice_split (λ b. b == 10) rest) in
-    ap lines (append_assoc bytes (10 ∷ []) rest)
-    ∙ ap lines_of_parts (split_at (λ b. b == 10) 10 rest refl bytes (implied is_quiet (λ b. not (b == 10)) quiet_no_feed bytes e))
-    ∙ lines_of_parts-cons bytes (slice_split (λ b. b == 10) rest) some
-    ∙ ap (λ t. cond t (take (length bytes - 1) bytes) bytes ∷ lines rest) (no_return bytes (length bytes - 1) e)
+pub line_again : (bytes rest : List ℕ) → list_all is_quiet bytes ≡ true
+    → lines ((bytes ++ 10 ∷ []) ++ rest) ≡ bytes ∷ lines rest
+line_again bytes rest e = texts.line_again is_quiet quiet_no_feed quiet_no_return bytes rest e

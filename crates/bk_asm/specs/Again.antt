@@ -4,14 +4,14 @@ use Rattle.std.specs.List.{list_all}
 use Rattle.bk_isa.specs.declared.form.Form.{Form}
 use Rattle.bk_isa.specs.Fields.{fields_of}
 use Rattle.bk_image.specs.Images.{Parts}
+use Rattle.bk_text.specs.Faults.{Bad}
 use Rattle.bk_asm.specs.Mnemonics.{operation_of}
-use Rattle.bk_asm.specs.Operations.{shape}
+use Rattle.bk_asm.specs.Operations.{slots_of}
 use Rattle.bk_asm.specs.Ranges.{is_target}
-use Rattle.bk_asm.specs.Faults.{Bad}
 
 -- a form that goes nowhere, or to one of so many places
 abbrev pub goes_inside : ℕ → Form → Bool
-goes_inside count f = not (is_target (shape (operation_of f)).last) || nat_lt (fields_of f).imm count
+goes_inside count f = not (is_target (slots_of (operation_of f)).last) || nat_lt (fields_of f).imm count
 
 -- each branch goes to a place that has an instruction
 abbrev pub all_inside : List Form → Bool

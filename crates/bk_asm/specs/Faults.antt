@@ -1,8 +1,10 @@
 -- The faults of a text of microcode.
 use Rattle.std.specs.Prelude.{◌≡◌, ℕ, Result, Ok, Err}
+use Rattle.bk_text.specs.declared.fault.At as places
+use Rattle.bk_text.specs.Faults as texts
+use Rattle.bk_text.specs.Faults.{Bad}
 use Rattle.bk_asm.specs.declared.fault.Kind.{Kind}
 use Rattle.bk_asm.specs.declared.fault.Kind.TheVariants as kinds
-use Rattle.bk_asm.specs.declared.fault.At.{At}
 use Rattle.bk_asm.specs.declared.fault.AsmFault.{AsmFault}
 use Rattle.bk_asm.specs.declared.fault.AsmFault.TheVariants as errors
 
@@ -19,17 +21,12 @@ kind_code kinds.WithoutInstruction = 28
 kind_code kinds.NoInstruction = 29
 kind_code kinds.TooMany = 30
 
--- the line and column of a fault, and the number of its kind
-pub record Bad : Type 0 where
-  pub line : ℕ
-  pub column : ℕ
-  pub kind : ℕ
-
-abbrev pub at : ℕ → Kind → At
-at column kind = record { column = column; kind = kind }
+-- what is wrong with a line, and in which column
+abbrev pub At : Type 0
+At = places.At Kind
 
 abbrev pub bad : ℕ → At → Bad
-bad line at = record { line = line; column = at.column; kind = kind_code at.kind }
+bad line fault = texts.bad kind_code line fault
 
 abbrev pub fault_of : Bad → AsmFault
 fault_of b = errors.Bad b.line b.column b.kind

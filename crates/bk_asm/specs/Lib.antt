@@ -7,4 +7,5 @@ pub mod Operations
 pub mod Programs
 pub mod Ranges
 pub mod Reading
+pub mod Spelled
 pub mod Writing

@@ -13,18 +13,21 @@ Naming = List ℕ × ℕ
 abbrev pub value_names : ℕ → List Naming
 value_names field =
     if field == 1 then (codes "Idle", 0) ∷ (codes "Blocked", 1) ∷ (codes "Held", 2) ∷ (codes "Closing", 3) ∷ []
-    else if field == 2 then (codes "None", 0) ∷ (codes "Request", 1) ∷ (codes "InvAck", 2) ∷ (codes "CohAck", 3) ∷ (codes "Wb", 4) ∷ (codes "NullWb", 5) ∷ (codes "Block", 6) ∷ []
+    else if field == 2 then (codes "None", 0) ∷ (codes "Request", 1) ∷ (codes "InvAck", 2) ∷ (codes "CohAck", 3) ∷ (codes "Wb", 4)
+    ∷ (codes "NullWb", 5) ∷ (codes "Block", 6) ∷ []
     else if field == 3 then (codes "free", 0) ∷ (codes "pending", 1) ∷ []
     else if field == 4 then (codes "Rd", 0) ∷ (codes "Wr", 1) ∷ (codes "UcRd", 2) ∷ (codes "UcWr", 3) ∷ (codes "Evict", 4) ∷ []
     else if field == 5 then (codes "no", 0) ∷ (codes "row", 1) ∷ (codes "sum", 2) ∷ []
-    else if field == 6 then (codes "I", 0) ∷ (codes "S", 1) ∷ (codes "E", 2) ∷ (codes "F", 3) ∷ (codes "M", 4) ∷ (codes "O", 5) ∷ []
+    else if field == 6 then (codes "I", 0) ∷ (codes "S", 1) ∷ (codes "E", 2) ∷ (codes "F", 3) ∷ (codes "M", 4)
+    ∷ (codes "O", 5) ∷ []
     else if field == 7 then (codes "none", 0) ∷ (codes "E", 1) ∷ (codes "F", 2) ∷ (codes "M", 3) ∷ (codes "O", 4) ∷ []
     else if field == 8 then (codes "no", 0) ∷ (codes "yes", 1) ∷ []
     else if field == 9 then (codes "light", 0) ∷ (codes "heavy", 1) ∷ []
     else if field == 10 then (codes "zero", 0) ∷ (codes "some", 1) ∷ []
     else if field == 11 then (codes "idle", 0) ∷ (codes "asked", 1) ∷ (codes "dirty", 2) ∷ []
     else if field == 12 then (codes "idle", 0) ∷ (codes "asked", 1) ∷ (codes "got", 2) ∷ (codes "written", 3) ∷ []
-    else if field == 13 then (codes "paid", 0) ∷ (codes "S", 1) ∷ (codes "E", 2) ∷ (codes "F", 3) ∷ (codes "M", 4) ∷ (codes "O", 5) ∷ []
+    else if field == 13 then (codes "paid", 0) ∷ (codes "S", 1) ∷ (codes "E", 2) ∷ (codes "F", 3) ∷ (codes "M", 4)
+    ∷ (codes "O", 5) ∷ []
     else if field == 14 then (codes "paid", 0) ∷ (codes "I", 1) ∷ (codes "S", 2) ∷ (codes "F", 3) ∷ (codes "O", 4) ∷ []
     else (codes "0", 0) ∷ (codes "1", 1) ∷ []
 
@@ -34,7 +37,9 @@ class_names = (codes "resp", 0) ∷ (codes "mem", 1) ∷ (codes "req", 2) ∷ []
 
 -- the names of each sort; states stand for their codes
 abbrev pub names_of : Names → List Naming
-names_of names.Register = (codes "r0", 0) ∷ (codes "r1", 1) ∷ (codes "r2", 2) ∷ (codes "r3", 3) ∷ (codes "r4", 4) ∷ (codes "r5", 5) ∷ (codes "r6", 6) ∷ (codes "r7", 7) ∷ []
+names_of names.Register = (codes "r0", 0) ∷ (codes "r1", 1) ∷ (codes "r2", 2) ∷ (codes "r3", 3) ∷ (codes "r4", 4)
+    ∷ (codes "r5", 5)
+    ∷ (codes "r6", 6) ∷ (codes "r7", 7) ∷ []
 names_of names.Flag = (codes "f0", 0) ∷ (codes "f1", 1) ∷ (codes "f2", 2) ∷ (codes "f3", 3) ∷ []
 names_of names.State = (codes "I", 0) ∷ (codes "S", 1) ∷ (codes "E", 2) ∷ (codes "F", 3) ∷ (codes "M", 6) ∷ (codes "O", 7) ∷ []
 names_of names.Valid = (codes "S", 1) ∷ (codes "E", 2) ∷ (codes "F", 3) ∷ (codes "M", 6) ∷ (codes "O", 7) ∷ []
@@ -46,8 +51,13 @@ names_of names.Whose = (codes "own", 0) ∷ (codes "owner", 1) ∷ []
 names_of names.Holder = (codes "own", 0) ∷ (codes "owner", 1) ∷ (codes "victim", 2) ∷ []
 names_of names.Pending = (codes "wp", 1) ∷ []
 names_of names.Owner = (codes "o", 1) ∷ []
-names_of names.Tested = (codes "head", 2) ∷ (codes "gp", 3) ∷ (codes "kind", 4) ∷ (codes "own", 6) ∷ (codes "owner", 7) ∷ (codes "others", 8) ∷ (codes "victim", 9) ∷ (codes "acks", 10) ∷ (codes "f0", 15) ∷ (codes "f1", 16) ∷ (codes "f2", 17) ∷ (codes "f3", 18) ∷ []
-names_of names.Field = (codes "stage", 1) ∷ (codes "head", 2) ∷ (codes "gp", 3) ∷ (codes "kind", 4) ∷ (codes "summ", 5) ∷ (codes "own", 6) ∷ (codes "owner", 7) ∷ (codes "others", 8) ∷ (codes "victim", 9) ∷ (codes "acks", 10) ∷ (codes "wb", 11) ∷ (codes "mem", 12) ∷ (codes "dreq", 13) ∷ (codes "down", 14) ∷ (codes "f0", 15) ∷ (codes "f1", 16) ∷ (codes "f2", 17) ∷ (codes "f3", 18) ∷ []
+names_of names.Tested = (codes "head", 2) ∷ (codes "gp", 3) ∷ (codes "kind", 4) ∷ (codes "own", 6) ∷ (codes "owner", 7)
+    ∷ (codes "others", 8) ∷ (codes "victim", 9) ∷ (codes "acks", 10) ∷ (codes "f0", 15) ∷ (codes "f1", 16) ∷ (codes "f2", 17)
+    ∷ (codes "f3", 18) ∷ []
+names_of names.Field = (codes "stage", 1) ∷ (codes "head", 2) ∷ (codes "gp", 3) ∷ (codes "kind", 4) ∷ (codes "summ", 5)
+    ∷ (codes "own", 6)
+    ∷ (codes "owner", 7) ∷ (codes "others", 8) ∷ (codes "victim", 9) ∷ (codes "acks", 10) ∷ (codes "wb", 11) ∷ (codes "mem", 12)
+    ∷ (codes "dreq", 13) ∷ (codes "down", 14) ∷ (codes "f0", 15) ∷ (codes "f1", 16) ∷ (codes "f2", 17) ∷ (codes "f3", 18) ∷ []
 
 -- what a word stands for
 abbrev pub named : List Naming → List ℕ → Option ℕ
@@ -65,7 +75,10 @@ joined names separator word = set_with names 0 (slice_split (λ b. b == separato
 
 -- what stands before the first separator, and what stands behind it where there is one
 abbrev pub cut_at : ℕ → List ℕ → List ℕ × Option (List ℕ)
-cut_at separator bytes = (before_first (λ b. b == separator) bytes, if nat_lt (position_or_len (λ b. b == separator) bytes) (length bytes) then Some (after_first (λ b. b == separator) bytes) else None)
+cut_at separator bytes = (
+  before_first (λ b. b == separator) bytes,
+  if nat_lt (position_or_len (λ b. b == separator) bytes) (length bytes) then Some (after_first (λ b. b == separator) bytes) else None,
+)
 
 -- whether a name stands for this number
 abbrev pub has_value : List Naming → ℕ → Bool

@@ -1,69 +1,69 @@
 -- The table of operations: how each is written.
 use Rattle.std.specs.Prelude.{ℕ, List, [], ◌∷◌, Option, Some, None, codes, if◌then◌else◌}
 use Rattle.std.specs.Str.{bytes_eq}
-use Rattle.bk_isa.specs.Opcodes.{NOP, ADD, SUB, AND, OR, XOR, SHL, SHR, ADDI, NOT, NEG, MOV, MOVI, MOVA, MOVS, MOVW, MOVK, BI, BEQ, BNE, BLT, BGE, BK, SF, CF, NF, MOVF, ANDF, ORF, RDW, GAD, WDE, WDS, FIN, WFQ, POPQ, DEFER, INV, STWB, BLK, WAKE, TR, UCBLK, UCDONE, DONE, MEMRD, MEMWB, MEMWW}
+use Rattle.bk_isa.specs.declared.opcode.TheConstants.{NOP, ADD, SUB, AND, OR, XOR, SHL, SHR, ADDI, NOT, NEG, MOV, MOVI, MOVA, MOVS, MOVW, MOVK, BI, BEQ, BNE, BLT, BGE, BK, SF, CF, NF, MOVF, ANDF, ORF, RDW, GAD, WDE, WDS, FIN, WFQ, POPQ, DEFER, INV, STWB, BLK, WAKE, TR, UCBLK, UCDONE, DONE, MEMRD, MEMWB, MEMWW}
 use Rattle.bk_asm.specs.declared.names.Names.TheVariants as names
 use Rattle.bk_asm.specs.declared.operation.Operation.{Operation}
 use Rattle.bk_asm.specs.declared.operation.Operation.TheVariants as operations
-use Rattle.bk_asm.specs.declared.operation.Slot.{Slot}
-use Rattle.bk_asm.specs.declared.operation.Slot.TheVariants as slots
-use Rattle.bk_asm.specs.declared.operation.Last.{Last}
-use Rattle.bk_asm.specs.declared.operation.Last.TheVariants as lasts
-use Rattle.bk_asm.specs.declared.operation.Shape.{Shape}
+use Rattle.bk_asm.specs.declared.slots.Slot.{Slot}
+use Rattle.bk_asm.specs.declared.slots.Slot.TheVariants as slots
+use Rattle.bk_asm.specs.declared.slots.Last.{Last}
+use Rattle.bk_asm.specs.declared.slots.Last.TheVariants as lasts
+use Rattle.bk_asm.specs.declared.slots.Slots.{Slots}
 
-abbrev pub operands : Slot → Slot → Slot → Last → Shape
+abbrev pub operands : Slot → Slot → Slot → Last → Slots
 operands a b c last = record { a = a; b = b; c = c; last = last }
 
 -- the operands of an operation, in the order in which they are written
-abbrev pub shape : Operation → Shape
-shape operations.Nop = operands slots.Nothing slots.Nothing slots.Nothing lasts.Nothing
-shape operations.Add = operands (slots.Name names.Register) (slots.Name names.Register) (slots.Name names.Register) lasts.Nothing
-shape operations.Sub = operands (slots.Name names.Register) (slots.Name names.Register) (slots.Name names.Register) lasts.Nothing
-shape operations.And = operands (slots.Name names.Register) (slots.Name names.Register) (slots.Name names.Register) lasts.Nothing
-shape operations.Or = operands (slots.Name names.Register) (slots.Name names.Register) (slots.Name names.Register) lasts.Nothing
-shape operations.Xor = operands (slots.Name names.Register) (slots.Name names.Register) (slots.Name names.Register) lasts.Nothing
-shape operations.Shl = operands (slots.Name names.Register) (slots.Name names.Register) slots.Nothing lasts.Shift
-shape operations.Shr = operands (slots.Name names.Register) (slots.Name names.Register) slots.Nothing lasts.Shift
-shape operations.Addi = operands (slots.Name names.Register) (slots.Name names.Register) slots.Nothing lasts.Number
-shape operations.Not = operands (slots.Name names.Register) (slots.Name names.Register) slots.Nothing lasts.Nothing
-shape operations.Neg = operands (slots.Name names.Register) (slots.Name names.Register) slots.Nothing lasts.Nothing
-shape operations.Mov = operands (slots.Name names.Register) (slots.Name names.Register) slots.Nothing lasts.Nothing
-shape operations.Movi = operands (slots.Name names.Register) slots.Nothing slots.Nothing lasts.Number
-shape operations.Mova = operands (slots.Name names.Register) slots.Nothing slots.Nothing lasts.Nothing
-shape operations.Movs = operands (slots.Name names.Register) slots.Nothing slots.Nothing lasts.Nothing
-shape operations.Movw = operands (slots.Name names.Register) slots.Nothing slots.Nothing lasts.Nothing
-shape operations.Movk = operands (slots.Name names.Register) slots.Nothing slots.Nothing lasts.Nothing
-shape operations.Bi = operands slots.Nothing slots.Nothing slots.Nothing lasts.Target
-shape operations.Beq = operands (slots.Name names.Register) (slots.Name names.Register) slots.Nothing lasts.Target
-shape operations.Bne = operands (slots.Name names.Register) (slots.Name names.Register) slots.Nothing lasts.Target
-shape operations.Blt = operands (slots.Name names.Register) (slots.Name names.Register) slots.Nothing lasts.Target
-shape operations.Bge = operands (slots.Name names.Register) (slots.Name names.Register) slots.Nothing lasts.Target
-shape operations.Bk = operands (slots.Name names.Tested) slots.Values slots.Nothing lasts.Target
-shape operations.Sf = operands (slots.Name names.Flag) slots.Nothing slots.Nothing lasts.Nothing
-shape operations.Cf = operands (slots.Name names.Flag) slots.Nothing slots.Nothing lasts.Nothing
-shape operations.Nf = operands (slots.Name names.Flag) slots.Nothing slots.Nothing lasts.Nothing
-shape operations.Movf = operands (slots.Name names.Flag) (slots.Name names.Flag) slots.Nothing lasts.Nothing
-shape operations.Andf = operands (slots.Name names.Flag) (slots.Name names.Flag) slots.Nothing lasts.Nothing
-shape operations.Orf = operands (slots.Name names.Flag) (slots.Name names.Flag) slots.Nothing lasts.Nothing
-shape operations.Rdw = operands slots.Nothing slots.Nothing slots.Nothing lasts.Nothing
-shape operations.Gad = operands slots.Nothing slots.Nothing slots.Nothing lasts.Nothing
-shape operations.Wde = operands (slots.Name names.Valid) slots.Nothing slots.Nothing lasts.Nothing
-shape operations.Wds = operands (slots.Name names.Whose) (slots.Name names.State) slots.Nothing lasts.Nothing
-shape operations.Fin = operands slots.Nothing slots.Nothing slots.Nothing lasts.Nothing
-shape operations.Wfq = operands slots.Classes slots.Nothing slots.Nothing lasts.Nothing
-shape operations.Popq = operands (slots.Perhaps names.Pending) slots.Nothing slots.Nothing lasts.Nothing
-shape operations.Defer = operands slots.Nothing slots.Nothing slots.Nothing lasts.Nothing
-shape operations.Inv = operands (slots.Perhaps names.Owner) slots.Nothing slots.Nothing lasts.Nothing
-shape operations.Stwb = operands (slots.Name names.Holder) (slots.Name names.Clean) slots.Nothing lasts.Nothing
-shape operations.Blk = operands (slots.Name names.Granted) slots.Nothing slots.Nothing lasts.Nothing
-shape operations.Wake = operands slots.Nothing slots.Nothing slots.Nothing lasts.Nothing
-shape operations.Tr = operands (slots.Name names.Left) (slots.Name names.Received) slots.Nothing lasts.Nothing
-shape operations.Ucblk = operands slots.Nothing slots.Nothing slots.Nothing lasts.Nothing
-shape operations.Ucdone = operands slots.Nothing slots.Nothing slots.Nothing lasts.Nothing
-shape operations.Done = operands slots.Nothing slots.Nothing slots.Nothing lasts.Nothing
-shape operations.Memrd = operands slots.Nothing slots.Nothing slots.Nothing lasts.Nothing
-shape operations.Memwb = operands slots.Nothing slots.Nothing slots.Nothing lasts.Nothing
-shape operations.Memww = operands slots.Nothing slots.Nothing slots.Nothing lasts.Nothing
+abbrev pub slots_of : Operation → Slots
+slots_of operations.Nop = operands slots.Nothing slots.Nothing slots.Nothing lasts.Nothing
+slots_of operations.Add = operands (slots.Name names.Register) (slots.Name names.Register) (slots.Name names.Register) lasts.Nothing
+slots_of operations.Sub = operands (slots.Name names.Register) (slots.Name names.Register) (slots.Name names.Register) lasts.Nothing
+slots_of operations.And = operands (slots.Name names.Register) (slots.Name names.Register) (slots.Name names.Register) lasts.Nothing
+slots_of operations.Or = operands (slots.Name names.Register) (slots.Name names.Register) (slots.Name names.Register) lasts.Nothing
+slots_of operations.Xor = operands (slots.Name names.Register) (slots.Name names.Register) (slots.Name names.Register) lasts.Nothing
+slots_of operations.Shl = operands (slots.Name names.Register) (slots.Name names.Register) slots.Nothing lasts.Shift
+slots_of operations.Shr = operands (slots.Name names.Register) (slots.Name names.Register) slots.Nothing lasts.Shift
+slots_of operations.Addi = operands (slots.Name names.Register) (slots.Name names.Register) slots.Nothing lasts.Number
+slots_of operations.Not = operands (slots.Name names.Register) (slots.Name names.Register) slots.Nothing lasts.Nothing
+slots_of operations.Neg = operands (slots.Name names.Register) (slots.Name names.Register) slots.Nothing lasts.Nothing
+slots_of operations.Mov = operands (slots.Name names.Register) (slots.Name names.Register) slots.Nothing lasts.Nothing
+slots_of operations.Movi = operands (slots.Name names.Register) slots.Nothing slots.Nothing lasts.Number
+slots_of operations.Mova = operands (slots.Name names.Register) slots.Nothing slots.Nothing lasts.Nothing
+slots_of operations.Movs = operands (slots.Name names.Register) slots.Nothing slots.Nothing lasts.Nothing
+slots_of operations.Movw = operands (slots.Name names.Register) slots.Nothing slots.Nothing lasts.Nothing
+slots_of operations.Movk = operands (slots.Name names.Register) slots.Nothing slots.Nothing lasts.Nothing
+slots_of operations.Bi = operands slots.Nothing slots.Nothing slots.Nothing lasts.Target
+slots_of operations.Beq = operands (slots.Name names.Register) (slots.Name names.Register) slots.Nothing lasts.Target
+slots_of operations.Bne = operands (slots.Name names.Register) (slots.Name names.Register) slots.Nothing lasts.Target
+slots_of operations.Blt = operands (slots.Name names.Register) (slots.Name names.Register) slots.Nothing lasts.Target
+slots_of operations.Bge = operands (slots.Name names.Register) (slots.Name names.Register) slots.Nothing lasts.Target
+slots_of operations.Bk = operands (slots.Name names.Tested) slots.Values slots.Nothing lasts.Target
+slots_of operations.Sf = operands (slots.Name names.Flag) slots.Nothing slots.Nothing lasts.Nothing
+slots_of operations.Cf = operands (slots.Name names.Flag) slots.Nothing slots.Nothing lasts.Nothing
+slots_of operations.Nf = operands (slots.Name names.Flag) slots.Nothing slots.Nothing lasts.Nothing
+slots_of operations.Movf = operands (slots.Name names.Flag) (slots.Name names.Flag) slots.Nothing lasts.Nothing
+slots_of operations.Andf = operands (slots.Name names.Flag) (slots.Name names.Flag) slots.Nothing lasts.Nothing
+slots_of operations.Orf = operands (slots.Name names.Flag) (slots.Name names.Flag) slots.Nothing lasts.Nothing
+slots_of operations.Rdw = operands slots.Nothing slots.Nothing slots.Nothing lasts.Nothing
+slots_of operations.Gad = operands slots.Nothing slots.Nothing slots.Nothing lasts.Nothing
+slots_of operations.Wde = operands (slots.Name names.Valid) slots.Nothing slots.Nothing lasts.Nothing
+slots_of operations.Wds = operands (slots.Name names.Whose) (slots.Name names.State) slots.Nothing lasts.Nothing
+slots_of operations.Fin = operands slots.Nothing slots.Nothing slots.Nothing lasts.Nothing
+slots_of operations.Wfq = operands slots.Classes slots.Nothing slots.Nothing lasts.Nothing
+slots_of operations.Popq = operands (slots.Perhaps names.Pending) slots.Nothing slots.Nothing lasts.Nothing
+slots_of operations.Defer = operands slots.Nothing slots.Nothing slots.Nothing lasts.Nothing
+slots_of operations.Inv = operands (slots.Perhaps names.Owner) slots.Nothing slots.Nothing lasts.Nothing
+slots_of operations.Stwb = operands (slots.Name names.Holder) (slots.Name names.Clean) slots.Nothing lasts.Nothing
+slots_of operations.Blk = operands (slots.Name names.Granted) slots.Nothing slots.Nothing lasts.Nothing
+slots_of operations.Wake = operands slots.Nothing slots.Nothing slots.Nothing lasts.Nothing
+slots_of operations.Tr = operands (slots.Name names.Left) (slots.Name names.Received) slots.Nothing lasts.Nothing
+slots_of operations.Ucblk = operands slots.Nothing slots.Nothing slots.Nothing lasts.Nothing
+slots_of operations.Ucdone = operands slots.Nothing slots.Nothing slots.Nothing lasts.Nothing
+slots_of operations.Done = operands slots.Nothing slots.Nothing slots.Nothing lasts.Nothing
+slots_of operations.Memrd = operands slots.Nothing slots.Nothing slots.Nothing lasts.Nothing
+slots_of operations.Memwb = operands slots.Nothing slots.Nothing slots.Nothing lasts.Nothing
+slots_of operations.Memww = operands slots.Nothing slots.Nothing slots.Nothing lasts.Nothing
 
 -- the top byte of its word
 abbrev pub opcode : Operation → ℕ

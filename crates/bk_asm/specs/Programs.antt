@@ -23,7 +23,7 @@ pub record Statement : Type 0 where
 
 -- its form, with this last operand
 abbrev pub form_with : Statement → ℕ → Form
-form_with s imm = form_of (fields_with (opcode s.operation) s.a s.b s.c imm)
+form_with statement imm = form_of (fields_with (opcode statement.operation) statement.a statement.b statement.c imm)
 
 -- what a line has: a label, a know line, an instruction
 pub record LineParts : Type 0 where

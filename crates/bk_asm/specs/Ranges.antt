@@ -2,13 +2,13 @@
 use Rattle.std.specs.Prelude.{◌≡◌, ℕ, ◌<◌, ◌^◌, ◌==◌, Bool, true, false, ◌&&◌, ◌||◌, nat_lt, length, is_some}
 use Rattle.bk_know.specs.declared.sets.Sets.{Sets}
 use Rattle.bk_asm.specs.Names.{value_names, names_of, has_value}
-use Rattle.bk_asm.specs.Operations.{shape}
+use Rattle.bk_asm.specs.Operations.{slots_of}
 use Rattle.bk_asm.specs.Programs.{Statement}
 use Rattle.bk_asm.specs.declared.names.Names.{Names}
-use Rattle.bk_asm.specs.declared.operation.Slot.{Slot}
-use Rattle.bk_asm.specs.declared.operation.Slot.TheVariants as slots
-use Rattle.bk_asm.specs.declared.operation.Last.{Last}
-use Rattle.bk_asm.specs.declared.operation.Last.TheVariants as lasts
+use Rattle.bk_asm.specs.declared.slots.Slot.{Slot}
+use Rattle.bk_asm.specs.declared.slots.Slot.TheVariants as slots
+use Rattle.bk_asm.specs.declared.slots.Last.{Last}
+use Rattle.bk_asm.specs.declared.slots.Last.TheVariants as lasts
 
 -- two to the number of a field's values
 abbrev pub limit_of : ℕ → ℕ
@@ -19,25 +19,25 @@ abbrev pub IsSet : ℕ → ℕ → Type 0
 IsSet limit set = (0 < set) × (set < limit)
 
 -- each field's set is one
-pub record AreInRange (s : Sets) : Type 0 where
-  pub stage : IsSet (2 ^ 4) s.stage
-  pub head : IsSet (2 ^ 7) s.head
-  pub gp : IsSet (2 ^ 2) s.gp
-  pub kind : IsSet (2 ^ 5) s.kind
-  pub summ : IsSet (2 ^ 3) s.summ
-  pub own : IsSet (2 ^ 6) s.own
-  pub owner : IsSet (2 ^ 5) s.owner
-  pub others : IsSet (2 ^ 2) s.others
-  pub victim : IsSet (2 ^ 2) s.victim
-  pub acks : IsSet (2 ^ 2) s.acks
-  pub wb : IsSet (2 ^ 3) s.wb
-  pub mem : IsSet (2 ^ 4) s.mem
-  pub dreq : IsSet (2 ^ 6) s.dreq
-  pub down : IsSet (2 ^ 5) s.down
-  pub f0 : IsSet (2 ^ 2) s.f0
-  pub f1 : IsSet (2 ^ 2) s.f1
-  pub f2 : IsSet (2 ^ 2) s.f2
-  pub f3 : IsSet (2 ^ 2) s.f3
+pub record AreInRange (sets : Sets) : Type 0 where
+  pub stage : IsSet (2 ^ 4) sets.stage
+  pub head : IsSet (2 ^ 7) sets.head
+  pub gp : IsSet (2 ^ 2) sets.gp
+  pub kind : IsSet (2 ^ 5) sets.kind
+  pub summ : IsSet (2 ^ 3) sets.summ
+  pub own : IsSet (2 ^ 6) sets.own
+  pub owner : IsSet (2 ^ 5) sets.owner
+  pub others : IsSet (2 ^ 2) sets.others
+  pub victim : IsSet (2 ^ 2) sets.victim
+  pub acks : IsSet (2 ^ 2) sets.acks
+  pub wb : IsSet (2 ^ 3) sets.wb
+  pub mem : IsSet (2 ^ 4) sets.mem
+  pub dreq : IsSet (2 ^ 6) sets.dreq
+  pub down : IsSet (2 ^ 5) sets.down
+  pub f0 : IsSet (2 ^ 2) sets.f0
+  pub f1 : IsSet (2 ^ 2) sets.f1
+  pub f2 : IsSet (2 ^ 2) sets.f2
+  pub f3 : IsSet (2 ^ 2) sets.f3
 
 -- a number that a name stands for
 abbrev pub is_value : Names → ℕ → Bool
@@ -65,9 +65,9 @@ is_target lasts.Number = false
 is_target lasts.Target = true
 
 -- the operands are in their ranges, and there is a target where the operation has one
-pub record IsReady (s : Statement) : Type 0 where
-  pub a : slot_ok (shape s.operation).a 0 s.a ≡ true
-  pub b : slot_ok (shape s.operation).b s.a s.b ≡ true
-  pub c : slot_ok (shape s.operation).c s.a s.c ≡ true
-  pub last : last_ok (shape s.operation).last s.imm ≡ true
-  pub target : is_some s.target ≡ is_target (shape s.operation).last
+pub record IsReady (statement : Statement) : Type 0 where
+  pub a : slot_ok (slots_of statement.operation).a 0 statement.a ≡ true
+  pub b : slot_ok (slots_of statement.operation).b statement.a statement.b ≡ true
+  pub c : slot_ok (slots_of statement.operation).c statement.a statement.c ≡ true
+  pub last : last_ok (slots_of statement.operation).last statement.imm ≡ true
+  pub target : is_some statement.target ≡ is_target (slots_of statement.operation).last

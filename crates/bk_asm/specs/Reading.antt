@@ -1,6 +1,6 @@
 -- Reading a text of microcode: what each line is, by its words, and the first fault.
 -- A line's readers answer a value and what is left of the line.
-use Rattle.std.specs.Prelude.{◌≡◌, ℕ, ◌+◌, ◌-◌, ◌/◌, ◌%◌, ◌^◌, ◌==◌, Bool, true, false, not, ◌&&◌, ◌||◌, List, [], ◌∷◌, ◌++◌, length, max, Option, Some, None, Result, Ok, Err, codes, nat_lt, nat_le, bit_or, is_some, option_and_then, if◌then◌else◌, slice_index, take}
+use Rattle.std.specs.Prelude.{ℕ, ◌+◌, ◌-◌, ◌/◌, ◌%◌, ◌^◌, ◌==◌, Bool, true, false, ◌&&◌, ◌||◌, List, [], ◌∷◌, ◌++◌, length, max, Option, Some, None, Result, Ok, Err, codes, nat_lt, nat_le, bit_or, is_some, option_and_then, if◌then◌else◌, slice_index, take}
 use Rattle.std.specs.Option.{option_map}
 use Rattle.std.specs.List.{list_all}
 use Rattle.std.specs.Ordering.{nat_cmp}
@@ -10,82 +10,40 @@ use Rattle.std.specs.Map.{lookup}
 use Rattle.std.specs.Str.{bytes_eq}
 use Rattle.std.specs.Str.Lines.{lines}
 use Rattle.bk_isa.specs.declared.form.Form.{Form}
+use Rattle.bk_know.specs.declared.fields.TheConstants.{FIELD_STAGE, FIELD_HEAD, FIELD_GP, FIELD_KIND, FIELD_SUMM, FIELD_OWN, FIELD_OWNER, FIELD_OTHERS, FIELD_VICTIM, FIELD_ACKS, FIELD_WB, FIELD_MEM, FIELD_DREQ, FIELD_DOWN, FIELD_F0, FIELD_F1, FIELD_F2}
 use Rattle.bk_know.specs.declared.sets.Sets.{Sets}
-use Rattle.bk_know.specs.Sets.{idle, held}
+use Rattle.bk_know.specs.Sets.{idle_base, held_base}
 use Rattle.bk_image.specs.Images.{Parts, Line}
-use Rattle.bk_text.specs.Texts.{is_text_byte, is_nonempty, number_of}
-use Rattle.bk_text.specs.Rows.{Marked, LineWords, row_of}
+use Rattle.bk_text.specs.Texts.{is_nonempty, number_of}
+use Rattle.bk_text.specs.LineWords.{Marked, LineWords, whole_line}
+use Rattle.bk_text.specs.Faults as texts
+use Rattle.bk_text.specs.Faults.{◌>>=◌, Bad, at, word_in, or_wrong, next_field, fault_behind, unless}
 use Rattle.bk_asm.specs.Names.{Naming, named, joined, cut_at, value_names, class_names, names_of}
-use Rattle.bk_asm.specs.Operations.{shape, mnemonics, pushed, operation_named}
-use Rattle.bk_asm.specs.Faults.{Bad, at, bad}
+use Rattle.bk_asm.specs.Operations.{slots_of, mnemonics, pushed, operation_named}
+use Rattle.bk_asm.specs.Faults.{At, kind_code, bad}
 use Rattle.bk_asm.specs.Programs.{Use, Statement, LineParts, form_with}
 use Rattle.bk_asm.specs.declared.names.Names.TheVariants as names
 use Rattle.bk_asm.specs.declared.operation.Operation.{Operation}
-use Rattle.bk_asm.specs.declared.operation.Slot.{Slot}
-use Rattle.bk_asm.specs.declared.operation.Slot.TheVariants as slots
-use Rattle.bk_asm.specs.declared.operation.Last.{Last}
-use Rattle.bk_asm.specs.declared.operation.Last.TheVariants as lasts
+use Rattle.bk_asm.specs.declared.slots.Slot.{Slot}
+use Rattle.bk_asm.specs.declared.slots.Slot.TheVariants as slots
+use Rattle.bk_asm.specs.declared.slots.Last.{Last}
+use Rattle.bk_asm.specs.declared.slots.Last.TheVariants as lasts
 use Rattle.bk_asm.specs.declared.fault.Kind.{Kind}
 use Rattle.bk_asm.specs.declared.fault.Kind.TheVariants as kinds
-use Rattle.bk_asm.specs.declared.fault.At.{At}
-
-infixl 10 ◌>>=◌
-abbrev pub ◌>>=◌ : {E A B : Type 0} → Result A E → (A → Result B E) → Result B E
-(Ok x) >>= f = f x
-(Err e) >>= f = Err e
 
 -- ---- words
 
--- whether a word's first byte is none of a text
-abbrev pub begins_badly : List ℕ → Bool
-begins_badly [] = false
-begins_badly (b ∷ word) = not (is_text_byte b)
-
--- A word that isn't what it should be: the fault stands at its first byte.
-abbrev pub wrong : Marked → Kind → At
-wrong w kind = at w.column (if begins_badly w.word then kinds.Byte else kind)
-
--- Where a word is missing: after the line's last byte, unless a byte of the comment is none of a text.
-abbrev pub missing_at : Option ℕ → ℕ → Kind → At
-missing_at (Some column) end kind = at column kinds.Byte
-missing_at None end kind = at end kind
-
-abbrev pub missing : LineWords → Kind → At
-missing row kind = missing_at row.bad row.end kind
-
-abbrev pub or_wrong : {X : Type 0} → Marked → Kind → Option X → Result X At
-or_wrong w kind (Some x) = Ok x
-or_wrong w kind None = Err (wrong w kind)
-
--- the next word
-abbrev pub word_in : Kind → LineWords → List Marked → Result (Marked × LineWords) At
-word_in kind row [] = Err (missing row kind)
-word_in kind row (w ∷ words) = Ok (w, record row { words = words })
-
 -- the next word, as it is read
 unfoldable pub field : {X : Type 0} → Kind → Kind → (List ℕ → Option X) → LineWords → Result (X × LineWords) At
-field absent kind read row = do
-  word ← word_in absent row row.words
-  x ← or_wrong word.0 kind (read word.0.word)
-  Ok (x, word.1)
+field absent kind read row = next_field kinds.Byte absent kind read row
 
 -- an operand
 abbrev pub operand : {X : Type 0} → (List ℕ → Option X) → LineWords → Result (X × LineWords) At
 operand read row = field kinds.Operand kinds.Operand read row
 
--- what is wrong behind the last word: a further word, or a byte of the comment that is none of a text
-abbrev pub fault_behind : List Marked → Option ℕ → Option At
-fault_behind (w ∷ words) bad = Some (wrong w kinds.Extra)
-fault_behind [] (Some column) = Some (at column kinds.Byte)
-fault_behind [] None = None
-
-abbrev pub unless : {X E : Type 0} → Option E → X → Result X E
-unless (Some e) x = Err e
-unless None x = Ok x
-
 -- a value, if nothing but a comment is left
 abbrev pub done : {X : Type 0} → LineWords → X → Result X At
-done row x = unless (fault_behind row.words row.bad) x
+done row x = unless (fault_behind kinds.Byte kinds.Extra row.words row.bad) x
 
 -- ---- labels
 
@@ -133,8 +91,8 @@ number_at limit row = field kinds.Operand kinds.Number (number_below limit) row 
 -- a label as the last operand
 unfoldable pub target_at : ℕ → LineWords → Result ((ℕ × Option Use) × LineWords) At
 target_at line row = do
-  word ← word_in kinds.Operand row row.words
-  name ← or_wrong word.0 kinds.Operand (target_of word.0.word)
+  word ← word_in kinds.Byte kinds.Operand row row.words
+  name ← or_wrong kinds.Byte word.0 kinds.Operand (target_of word.0.word)
   Ok ((0, Some (record { line = line; column = word.0.column; name = name })), word.1)
 
 -- the last operand
@@ -147,55 +105,56 @@ last_at lasts.Target line row = target_at line row
 -- the operands of an operation, and nothing behind them
 unfoldable pub operands_at : ℕ → Operation → LineWords → Result Statement At
 operands_at line operation row = do
-  a ← slot_at (shape operation).a 0 row
-  b ← slot_at (shape operation).b a.0 a.1
-  c ← slot_at (shape operation).c a.0 b.1
-  last ← last_at (shape operation).last line c.1
+  a ← slot_at (slots_of operation).a 0 row
+  b ← slot_at (slots_of operation).b a.0 a.1
+  c ← slot_at (slots_of operation).c a.0 b.1
+  last ← last_at (slots_of operation).last line c.1
   done last.1 (record { operation = operation; a = a.0; b = b.0; c = c.0; imm = last.0.0; target = last.0.1 })
 
 -- the operation of a mnemonic; of `pushq` the next word says which
 unfoldable pub mnemonic_at : Bool → Marked → LineWords → Result (Operation × LineWords) At
-mnemonic_at full w row =
-    if bytes_eq w.word (codes "pushq")
-    then (if full then Err (at w.column kinds.TooMany) else operand (operation_named pushed) row)
-    else (or_wrong w kinds.Mnemonic (operation_named mnemonics w.word) >>= λ operation. if full then Err (at w.column kinds.TooMany) else Ok (operation, row))
+mnemonic_at full marked row =
+    if bytes_eq marked.word (codes "pushq")
+    then (if full then Err (at marked.column kinds.TooMany) else operand (operation_named pushed) row)
+    else (or_wrong kinds.Byte marked kinds.Mnemonic (operation_named mnemonics marked.word) >>= λ operation. if full
+    then Err (at marked.column kinds.TooMany) else Ok (operation, row))
 
 -- ---- know lines
 
 -- where a know line begins
 abbrev pub base_of : List ℕ → Option Sets
-base_of word = if bytes_eq word (codes "idle") then Some idle else if bytes_eq word (codes "held") then Some held else None
+base_of word = if bytes_eq word (codes "idle") then Some idle_base else if bytes_eq word (codes "held") then Some held_base else None
 
 -- the sets with another one for the field of a number
 abbrev pub with_field : Sets → ℕ → ℕ → Sets
-with_field s k set =
-    if k == 1 then record s { stage = set }
-    else if k == 2 then record s { head = set }
-    else if k == 3 then record s { gp = set }
-    else if k == 4 then record s { kind = set }
-    else if k == 5 then record s { summ = set }
-    else if k == 6 then record s { own = set }
-    else if k == 7 then record s { owner = set }
-    else if k == 8 then record s { others = set }
-    else if k == 9 then record s { victim = set }
-    else if k == 10 then record s { acks = set }
-    else if k == 11 then record s { wb = set }
-    else if k == 12 then record s { mem = set }
-    else if k == 13 then record s { dreq = set }
-    else if k == 14 then record s { down = set }
-    else if k == 15 then record s { f0 = set }
-    else if k == 16 then record s { f1 = set }
-    else if k == 17 then record s { f2 = set }
-    else record s { f3 = set }
+with_field sets number set =
+    if number == FIELD_STAGE then record sets { stage = set }
+    else if number == FIELD_HEAD then record sets { head = set }
+    else if number == FIELD_GP then record sets { gp = set }
+    else if number == FIELD_KIND then record sets { kind = set }
+    else if number == FIELD_SUMM then record sets { summ = set }
+    else if number == FIELD_OWN then record sets { own = set }
+    else if number == FIELD_OWNER then record sets { owner = set }
+    else if number == FIELD_OTHERS then record sets { others = set }
+    else if number == FIELD_VICTIM then record sets { victim = set }
+    else if number == FIELD_ACKS then record sets { acks = set }
+    else if number == FIELD_WB then record sets { wb = set }
+    else if number == FIELD_MEM then record sets { mem = set }
+    else if number == FIELD_DREQ then record sets { dreq = set }
+    else if number == FIELD_DOWN then record sets { down = set }
+    else if number == FIELD_F0 then record sets { f0 = set }
+    else if number == FIELD_F1 then record sets { f1 = set }
+    else if number == FIELD_F2 then record sets { f2 = set }
+    else record sets { f3 = set }
 
 -- the field of this number, which stood in none of the fields before
 abbrev pub fresh : ℕ → ℕ → Option ℕ
-fresh seen k = if seen / 2 ^ k % 2 == 1 then None else Some k
+fresh seen number = if seen / 2 ^ number % 2 == 1 then None else Some number
 
 -- the set of a field's values
 abbrev pub values_of : ℕ → Option (List ℕ) → Option ℕ
-values_of k (Some values) = joined (value_names k) 124 values
-values_of k None = None
+values_of number (Some values) = joined (value_names number) 124 values
+values_of number None = None
 
 -- `field=value|value`: a field that stands in none of the fields before, and its set
 unfoldable pub entry_of : ℕ → List ℕ → Option (ℕ × ℕ)
@@ -205,8 +164,9 @@ entry_of seen word =
 
 -- the fields of a know line, each of which takes the place of the one that was there; the comment behind them may have a bad byte
 unfoldable pub entries_at : Sets → ℕ → Option ℕ → List Marked → Result Sets At
-entries_at sets seen bad [] = unless (fault_behind [] bad) sets
-entries_at sets seen bad (w ∷ words) = or_wrong w kinds.Know (entry_of seen w.word) >>= λ e. entries_at (with_field sets e.0 e.1) (bit_or seen (2 ^ e.0)) bad words
+entries_at sets seen bad [] = unless (fault_behind kinds.Byte kinds.Extra [] bad) sets
+entries_at sets seen bad (w ∷ words) =
+    or_wrong kinds.Byte w kinds.Know (entry_of seen w.word) >>= λ e. entries_at (with_field sets e.0 e.1) (bit_or seen (2 ^ e.0)) bad words
 
 -- what stands behind `know`
 unfoldable pub know_at : LineWords → Result Sets At
@@ -235,10 +195,10 @@ parts know does = record { label = None; know = know; does = does }
 
 -- The word `know` or a mnemonic. An instruction has one know line at most, and an image 256 instructions.
 unfoldable pub content_at : Bool → Bool → ℕ → Marked → LineWords → Result LineParts At
-content_at full known line w row =
-    if bytes_eq w.word (codes "know")
-    then (if known then Err (at w.column kinds.Know) else (know_at row >>= λ sets. Ok (parts (Some sets) None)))
-    else (mnemonic_at full w row >>= λ o. operands_at line o.0 o.1 >>= λ statement. Ok (parts None (Some statement)))
+content_at full known line marked row =
+    if bytes_eq marked.word (codes "know")
+    then (if known then Err (at marked.column kinds.Know) else (know_at row >>= λ sets. Ok (parts (Some sets) None)))
+    else (mnemonic_at full marked row >>= λ o. operands_at line o.0 o.1 >>= λ statement. Ok (parts None (Some statement)))
 
 -- what stands behind a label
 unfoldable pub rest_at : Bool → Bool → ℕ → LineWords → List Marked → Result LineParts At
@@ -247,13 +207,13 @@ rest_at full known line row (w ∷ words) = content_at full known line w (record
 
 -- one more label, if it is none of those before
 abbrev pub fresh_label : List Naming → Marked → List ℕ → Result (List ℕ) At
-fresh_label labels w name = if is_some (place_of labels name) then Err (at w.column kinds.LabelTwice) else Ok name
+fresh_label labels marked name = if is_some (place_of labels name) then Err (at marked.column kinds.LabelTwice) else Ok name
 
 -- a line, by the label that its first word is
 unfoldable pub labelled_at : List Naming → Bool → Bool → ℕ → Marked → LineWords → Option (List ℕ) → Result LineParts At
-labelled_at labels full known line w row None = content_at full known line w row
-labelled_at labels full known line w row (Some name) = do
-  label ← fresh_label labels w name
+labelled_at labels full known line marked row None = content_at full known line marked row
+labelled_at labels full known line marked row (Some name) = do
+  label ← fresh_label labels marked name
   content ← rest_at full known line row row.words
   Ok (record content { label = Some label })
 
@@ -265,15 +225,14 @@ line_at labels full known line row (w ∷ words) = labelled_at labels full known
 -- ---- texts
 
 abbrev pub on_line : {X : Type 0} → ℕ → Result X At → Result X Bad
-on_line line (Ok x) = Ok x
-on_line line (Err fault) = Err (bad line fault)
+on_line line read = texts.on_line kind_code line read
 
 -- what begins a comment: `;`
 abbrev pub comment_mark : ℕ
 comment_mark = 59
 
 abbrev pub row_at : List ℕ → LineWords
-row_at text = row_of comment_mark text
+row_at text = whole_line comment_mark text
 
 -- a label stands for the place of the next instruction
 abbrev pub with_label : Option (List ℕ) → Draft → Draft
@@ -293,7 +252,13 @@ know_line place (Some sets) = (place, sets) ∷ []
 -- an instruction takes the know line that waits, and nothing waits any more
 abbrev pub with_statement : Option Statement → Draft → Draft
 with_statement None d = d
-with_statement (Some s) d = record { statements = d.statements ++ s ∷ []; knows = d.knows ++ know_line (length d.statements) d.know; labels = d.labels; know = None; waits = false }
+with_statement (Some s) d = record {
+  statements = d.statements ++ s ∷ [];
+  knows = d.knows ++ know_line (length d.statements) d.know;
+  labels = d.labels;
+  know = None;
+  waits = false;
+}
 
 -- what was read with one more line
 abbrev pub after : LineParts → Draft → Draft
@@ -316,8 +281,8 @@ use_at labels u = on_line u.line (defined_at u.column (place_of labels u.name))
 
 -- the form of an instruction, whose target is the place of its label
 abbrev pub form_at : List Naming → Statement → Option Use → Result Form Bad
-form_at labels s None = Ok (form_with s s.imm)
-form_at labels s (Some u) = use_at labels u >>= λ place. Ok (form_with s place)
+form_at labels statement None = Ok (form_with statement statement.imm)
+form_at labels statement (Some u) = use_at labels u >>= λ place. Ok (form_with statement place)
 
 -- the forms of instructions
 unfoldable pub forms_at : List Naming → List Statement → Result (List Form) Bad
@@ -337,13 +302,3 @@ image_of last d =
 -- the image that a text spells, or its first fault; an empty text counts as one line
 unfoldable pub image_at : List ℕ → Result Parts Bad
 image_at text = lines_at nothing_read 1 (lines text) >>= image_of (max 1 (length (lines text)))
-
--- ---- what the code's readers give: the value, seen by view, and what is left of the line
-abbrev pub Steps : {X Y : Type 0} → (X → Y) → Result X At → LineWords → Result (Y × LineWords) At → Type 0
-Steps view (Ok x) left read = read ≡ Ok (view x, left)
-Steps view (Err e) left read = read ≡ Err e
-
--- what the code's reader of a whole line gives, seen by view
-abbrev pub LineGives : {X Y : Type 0} → (X → Y) → Result X At → Result Y At → Type 0
-LineGives view (Ok x) read = read ≡ Ok (view x)
-LineGives view (Err e) read = read ≡ Err e

@@ -5,19 +5,20 @@ use Rattle.std.specs.Fmt.{decimal}
 use Rattle.bk_isa.specs.declared.fields.Fields.{Fields}
 use Rattle.bk_isa.specs.declared.form.Form.{Form}
 use Rattle.bk_isa.specs.Fields.{fields_of}
+use Rattle.bk_know.specs.declared.values.TheConstants.{STAGE_HELD_CLOSING}
 use Rattle.bk_know.specs.declared.sets.Sets.{Sets}
-use Rattle.bk_know.specs.Sets.{idle, held, subset, field}
+use Rattle.bk_know.specs.Sets.{idle_base, held_base, subset, field}
 use Rattle.bk_image.specs.Images.{Parts, known}
 use Rattle.bk_asm.specs.Names.{Naming, value_names, class_names, names_of}
-use Rattle.bk_asm.specs.Operations.{shape}
+use Rattle.bk_asm.specs.Operations.{slots_of}
 use Rattle.bk_asm.specs.Mnemonics.{mnemonic, operation_of}
 use Rattle.bk_asm.specs.Ranges.{is_target}
 use Rattle.bk_asm.specs.declared.names.Names.TheVariants as names
 use Rattle.bk_asm.specs.declared.operation.Operation.{Operation}
-use Rattle.bk_asm.specs.declared.operation.Slot.{Slot}
-use Rattle.bk_asm.specs.declared.operation.Slot.TheVariants as slots
-use Rattle.bk_asm.specs.declared.operation.Last.{Last}
-use Rattle.bk_asm.specs.declared.operation.Last.TheVariants as lasts
+use Rattle.bk_asm.specs.declared.slots.Slot.{Slot}
+use Rattle.bk_asm.specs.declared.slots.Slot.TheVariants as slots
+use Rattle.bk_asm.specs.declared.slots.Last.{Last}
+use Rattle.bk_asm.specs.declared.slots.Last.TheVariants as lasts
 
 -- the name of a number
 abbrev pub name_of : List Naming → ℕ → List ℕ
@@ -57,7 +58,8 @@ last_text lasts.Target n = codes " " ++ label_text n
 
 -- an instruction
 abbrev pub operation_text : Operation → Fields → List ℕ
-operation_text o p = mnemonic o ++ slot_text (shape o).a 0 p.a ++ slot_text (shape o).b p.a p.b ++ slot_text (shape o).c p.a p.c ++ last_text (shape o).last p.imm
+operation_text o p = mnemonic o ++ slot_text (slots_of o).a 0 p.a ++ slot_text (slots_of o).b p.a p.b ++ slot_text (slots_of o).c p.a p.c
+    ++ last_text (slots_of o).last p.imm
 
 abbrev pub form_text : Form → List ℕ
 form_text f = operation_text (operation_of f) (fields_of f)
@@ -66,7 +68,8 @@ form_text f = operation_text (operation_of f) (fields_of f)
 
 -- a field with the names of its values, if its set differs from that of the base
 abbrev pub field_text : Naming → Sets → Sets → List ℕ
-field_text name base sets = if field sets name.1 == field base name.1 then [] else codes " " ++ name.0 ++ codes "=" ++ set_text (value_names name.1) true (codes "|") (field sets name.1)
+field_text name base sets = if field sets name.1 == field base name.1 then []
+    else codes " " ++ name.0 ++ codes "=" ++ set_text (value_names name.1) true (codes "|") (field sets name.1)
 
 -- the fields of a list
 abbrev pub fields_text : List Naming → Sets → Sets → List ℕ
@@ -75,7 +78,7 @@ fields_text (name ∷ more) base sets = field_text name base sets ++ fields_text
 
 -- the stage is Held, Closing or one of the two
 abbrev pub is_held : Sets → Bool
-is_held sets = subset sets.stage 12
+is_held sets = subset sets.stage STAGE_HELD_CLOSING
 
 -- a know line: its base, and the fields that differ from that
 unfoldable pub based_text : List Naming → List ℕ → Sets → Sets → List ℕ
@@ -83,7 +86,8 @@ based_text fields name base sets = codes "  know " ++ name ++ fields_text fields
 
 -- the base is that of a held request where one is held
 abbrev pub know_text : Sets → List ℕ
-know_text sets = if is_held sets then based_text (names_of names.Field) (codes "held") held sets else based_text (names_of names.Field) (codes "idle") idle sets
+know_text sets = if is_held sets then based_text (names_of names.Field) (codes "held") held_base sets
+    else based_text (names_of names.Field) (codes "idle") idle_base sets
 
 abbrev pub know_line_text : Option Sets → List ℕ
 know_line_text None = []
@@ -93,7 +97,7 @@ know_line_text (Some sets) = know_text sets
 
 -- whether a form goes to a place
 abbrev pub goes_to : ℕ → Form → Bool
-goes_to place f = is_target (shape (operation_of f)).last && (fields_of f).imm == place
+goes_to place f = is_target (slots_of (operation_of f)).last && (fields_of f).imm == place
 
 -- the label of a place, if some branch names it
 unfoldable pub label_line : List Form → ℕ → List ℕ

@@ -2,12 +2,13 @@ ghost use Rattle.std.specs.Prelude.{◌≡◌, ◌<◌, length, max, IfOk, IfSom
 ghost use Rattle.std.specs.Option.{option_map};
 ghost use Rattle.bk_asm.specs.Faults.{Gives};
 ghost use Rattle.bk_asm.specs.Reading.{after, image_at};
+ghost use Rattle.bk_asm.specs.Spelled.{Spells};
 
 use crate::draft::Draft;
-use crate::fault::AsmFault;
+use crate::fault::{AsmFault, on_line};
 use crate::line::{Line, line_at};
 use bk_image::Image;
-use bk_text::{Row, cut_line};
+use bk_text::{TextLine, cut_line};
 use std::alloc::{AllocError, Global};
 
 /// What begins a comment.
@@ -16,7 +17,11 @@ const COMMENT: u8 = b';';
 /// What was read with one more line. There is room for its instruction, if it has one.
 fn after<'a>(draft: Draft<'a>, line: Line<'a>) -> Result<Draft<'a>, AllocError>
     requires { IfSome line.does (λ _. length draft.statements < 256) }
-    ensures { IfOk result (λ d. d ≡ after (record { label = option_map (λ w. w.now) line.entry.label; know = line.entry.know; does = line.entry.does }) draft.entry) }
+    ensures { IfOk result (λ d. d ≡ after (record {
+      label = option_map (λ w. w.now) line.entry.label;
+      know = line.entry.know;
+      does = line.entry.does;
+    }) draft.entry) }
 {
     let Line { label, know, does } = line;
     let mut draft = draft;
@@ -42,6 +47,7 @@ fn last_line(lines: u64) -> u64
 /// The image that a text spells, or the first fault of the text.
 pub fn assemble(alloc: Global, text: &[u8]) -> Result<Image, AsmFault>
     ensures exact { Gives (λ i. i) result (image_at text.now) }
+    ensures spelled { IfOk result (λ image. Spells text.now image) }
 {
     let mut draft = Draft::new(alloc);
     let mut rest = text;
@@ -53,10 +59,10 @@ pub fn assemble(alloc: Global, text: &[u8]) -> Result<Image, AsmFault>
             &draft.labels,
             draft.before(),
             line,
-            &mut Row::of(COMMENT, front),
+            &mut TextLine::of(COMMENT, front),
         ) {
             Ok(parts) => parts,
-            Err(fault) => return Err(fault.on_line(line)),
+            Err(fault) => return Err(on_line(line, fault)),
         };
         draft = after(draft, parts)?;
         rest = behind;

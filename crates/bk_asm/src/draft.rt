@@ -1,8 +1,9 @@
 ghost use Rattle.std.specs.Prelude.{◌≡◌, ◌<◌, ◌++◌, length, nat_le, is_some, false, Some, IfOk};
 ghost use Rattle.bk_asm.specs.Reading.{nothing_read, with_label, with_know, with_statement, know_line, form_at, forms_at, image_of};
-ghost use Rattle.bk_asm.specs.Faults.{at, Gives};
+ghost use Rattle.bk_text.specs.Faults.{at};
+ghost use Rattle.bk_asm.specs.Faults.{Gives};
 
-use crate::fault::{AsmFault, At, Kind};
+use crate::fault::{AsmFault, At, Kind, on_line};
 use crate::labels::Labels;
 use crate::line::Before;
 use crate::statement::Statement;
@@ -30,9 +31,21 @@ impl<'a> Model for Draft<'a> {
 
     ghost Value = { Parts };
 
-    ghost view = { λ d. record { statements = d.statements.items; knows = d.knows.items; labels = d.labels; know = d.know; waits = d.waits } };
+    ghost view = { λ d. record {
+      statements = d.statements.items;
+      knows = d.knows.items;
+      labels = d.labels;
+      know = d.know;
+      waits = d.waits;
+    } };
 
-    ghost invariant = { λ d. IsDraft (record { statements = d.statements.items; knows = d.knows.items; labels = d.labels; know = d.know; waits = d.waits }) };
+    ghost invariant = { λ d. IsDraft (record {
+      statements = d.statements.items;
+      knows = d.knows.items;
+      labels = d.labels;
+      know = d.know;
+      waits = d.waits;
+    }) };
 }
 
 impl<'a> Draft<'a> {
@@ -127,7 +140,7 @@ impl<'a> Draft<'a> {
                         column: target.column,
                         kind: Kind::LabelUndefined,
                     };
-                    Err(fault.on_line(target.line))
+                    Err(on_line(target.line, fault))
                 }
             },
         }
@@ -156,10 +169,10 @@ impl<'a> Draft<'a> {
         ensures { Gives (λ i. i) result (image_of last self.entry) }
     {
         if self.waits || self.know.is_some() {
-            return Err(start(Kind::WithoutInstruction).on_line(last));
+            return Err(on_line(last, start(Kind::WithoutInstruction)));
         }
         if self.statements.is_empty() {
-            return Err(start(Kind::NoInstruction).on_line(last));
+            return Err(on_line(last, start(Kind::NoInstruction)));
         }
         let forms = self.forms(alloc)?;
         match Image::make(forms, self.knows) {

@@ -1,7 +1,9 @@
 ghost use Rattle.std.specs.Prelude.{◌≡◌};
 ghost use Rattle.bk_asm.specs.Faults.{kind_code, bad, fault_of};
+ghost use Rattle.bk_asm.specs.declared.fault.Kind.TheVariants.{Byte, Extra};
 ghost use Rattle.bk_asm.specs.declared.fault.AsmFault.TheVariants.{Memory};
 
+use bk_text::FaultKind;
 use std::alloc::{AllocError, AllocFailed};
 use thiserror::Error;
 
@@ -53,23 +55,31 @@ impl Kind {
     }
 }
 
-/// What is wrong with a line, and in which column.
-#[derive(Clone, Copy)]
-pub(crate) struct At {
-    pub column: u64,
-    pub kind: Kind,
+impl FaultKind for Kind {
+    ghost byte = { Byte };
+
+    ghost extra = { Extra };
+
+    fn byte() -> Kind {
+        Kind::Byte
+    }
+
+    fn extra() -> Kind {
+        Kind::Extra
+    }
 }
 
-impl At {
-    /// The same in the line of a number.
-    pub fn on_line(self, line: u64) -> AsmFault
-        ensures { result ≡ fault_of (bad line self) }
-    {
-        AsmFault::Bad {
-            line,
-            column: self.column,
-            kind: self.kind.code(),
-        }
+/// What is wrong with a line, and in which column.
+pub(crate) type At = bk_text::At<Kind>;
+
+/// The same in the line of a number.
+pub(crate) fn on_line(line: u64, fault: At) -> AsmFault
+    ensures { result ≡ fault_of (bad line fault) }
+{
+    AsmFault::Bad {
+        line,
+        column: fault.column,
+        kind: fault.kind.code(),
     }
 }
 

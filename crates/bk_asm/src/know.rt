@@ -8,9 +8,13 @@ ghost use Rattle.bk_asm.specs.declared.names.Names.TheVariants as names;
 
 use crate::fault::{At, Kind};
 use crate::names::{Names, cut, joined, named, names_of, value_names};
-use crate::operand::{fault_behind, word_at, wrong};
+use bk_know::fields::{
+    FIELD_ACKS, FIELD_DOWN, FIELD_DREQ, FIELD_F0, FIELD_F1, FIELD_F2, FIELD_GP, FIELD_HEAD,
+    FIELD_KIND, FIELD_MEM, FIELD_OTHERS, FIELD_OWN, FIELD_OWNER, FIELD_STAGE, FIELD_SUMM,
+    FIELD_VICTIM, FIELD_WB,
+};
 use bk_know::{Know, Sets, held, idle};
-use bk_text::Row;
+use bk_text::{TextLine, fault_behind, word_at, wrong};
 
 /// What stands between a field and its values.
 const EQUALS: u8 = b'=';
@@ -38,29 +42,29 @@ fn with_field(sets: Sets, number: u8, set: u8) -> Sets
     ensures range { AreInRange result }
 {
     match number {
-        1 => Sets { stage: set, ..sets },
-        2 => Sets { head: set, ..sets },
-        3 => Sets { gp: set, ..sets },
-        4 => Sets { kind: set, ..sets },
-        5 => Sets { summ: set, ..sets },
-        6 => Sets { own: set, ..sets },
-        7 => Sets { owner: set, ..sets },
-        8 => Sets {
+        FIELD_STAGE => Sets { stage: set, ..sets },
+        FIELD_HEAD => Sets { head: set, ..sets },
+        FIELD_GP => Sets { gp: set, ..sets },
+        FIELD_KIND => Sets { kind: set, ..sets },
+        FIELD_SUMM => Sets { summ: set, ..sets },
+        FIELD_OWN => Sets { own: set, ..sets },
+        FIELD_OWNER => Sets { owner: set, ..sets },
+        FIELD_OTHERS => Sets {
             others: set,
             ..sets
         },
-        9 => Sets {
+        FIELD_VICTIM => Sets {
             victim: set,
             ..sets
         },
-        10 => Sets { acks: set, ..sets },
-        11 => Sets { wb: set, ..sets },
-        12 => Sets { mem: set, ..sets },
-        13 => Sets { dreq: set, ..sets },
-        14 => Sets { down: set, ..sets },
-        15 => Sets { f0: set, ..sets },
-        16 => Sets { f1: set, ..sets },
-        17 => Sets { f2: set, ..sets },
+        FIELD_ACKS => Sets { acks: set, ..sets },
+        FIELD_WB => Sets { wb: set, ..sets },
+        FIELD_MEM => Sets { mem: set, ..sets },
+        FIELD_DREQ => Sets { dreq: set, ..sets },
+        FIELD_DOWN => Sets { down: set, ..sets },
+        FIELD_F0 => Sets { f0: set, ..sets },
+        FIELD_F1 => Sets { f1: set, ..sets },
+        FIELD_F2 => Sets { f2: set, ..sets },
         _ => Sets { f3: set, ..sets },
     }
 }
@@ -153,7 +157,7 @@ fn entry_of(seen: u32, word: &[u8]) -> Option<(u8, u8)>
 }
 
 /// The fields of a know line, each in place of the one that was there.
-fn entries_at(base: Sets, row: &mut Row<'_>) -> Result<Sets, At>
+fn entries_at(base: Sets, row: &mut TextLine<'_>) -> Result<Sets, At>
     requires { AreInRange base }
     ensures value { result ≡ entries_at base 0 row.old.bad row.old.words }
     ensures range { IfOk result (λ s. AreInRange s) }
@@ -175,7 +179,7 @@ fn entries_at(base: Sets, row: &mut Row<'_>) -> Result<Sets, At>
 
 /// What stands behind `know`: a base, and fields that differ from it.
 #[tactic(auto, unfolding(crate::specs::Reading::know_at, crate::specs::Reading::field))]
-pub(crate) fn know_at(row: &mut Row<'_>) -> Result<Know, At>
+pub(crate) fn know_at(row: &mut TextLine<'_>) -> Result<Know, At>
     ensures { result ≡ know_at row.old }
 {
     let word = word_at(Kind::Know, row)?;

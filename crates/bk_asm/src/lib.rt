@@ -11,6 +11,7 @@ mod mnemonic;
 mod names;
 mod operand;
 mod operation;
+mod slots;
 mod statement;
 mod writing;
 

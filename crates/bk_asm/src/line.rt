@@ -1,14 +1,16 @@
 ghost use Rattle.std.specs.Prelude.{◌≡◌, None, false, IfOk, IfSome};
 ghost use Rattle.std.specs.Option.{option_map};
-ghost use Rattle.bk_asm.specs.Reading.{label_of, content_at, rest_at, fresh_label, labelled_at, line_at, fault_behind, unless, parts, LineGives};
+ghost use Rattle.bk_text.specs.Faults.{fault_behind, unless, LineGives};
+ghost use Rattle.bk_asm.specs.declared.fault.Kind.TheVariants as kinds;
+ghost use Rattle.bk_asm.specs.Reading.{label_of, content_at, rest_at, fresh_label, labelled_at, line_at, parts};
 
 use crate::fault::{At, Kind};
 use crate::know::know_at;
 use crate::labels::Labels;
-use crate::operand::{fault_behind, is_label};
+use crate::operand::is_label;
 use crate::statement::{Statement, mnemonic_at, operands_at};
 use bk_know::Know;
-use bk_text::{Placed, Row};
+use bk_text::{Placed, TextLine, fault_behind};
 
 /// What a line has: a label, a know line, an instruction.
 #[derive(Drop)]
@@ -41,9 +43,10 @@ fn content_at<'a>(
     before: Before,
     line: u64,
     word: Placed<'a>,
-    row: &mut Row<'a>,
+    row: &mut TextLine<'a>,
 ) -> Result<Line<'a>, At>
-    ensures value { LineGives (λ l. record { label = option_map (λ w. w.now) l.label; know = l.know; does = l.does }) result (content_at before.full before.known line (record { column = word.entry.column; word = word.entry.word.now }) row.old) }
+    ensures value { LineGives (λ l. record { label = option_map (λ w. w.now) l.label; know = l.know; does = l.does }) result
+        (content_at before.full before.known line (record { column = word.entry.column; word = word.entry.word.now }) row.old) }
     ensures room { IfOk result (λ l. IfSome l.does (λ _. before.full ≡ false)) }
 {
     if word.word == b"know".as_slice() {
@@ -70,8 +73,9 @@ fn content_at<'a>(
 }
 
 /// A line without words.
-fn empty_at<'a>(row: &mut Row<'a>) -> Result<Line<'a>, At>
-    ensures value { LineGives (λ l. record { label = option_map (λ w. w.now) l.label; know = l.know; does = l.does }) result (unless (fault_behind row.old.words row.old.bad) (parts None None)) }
+fn empty_at<'a>(row: &mut TextLine<'a>) -> Result<Line<'a>, At>
+    ensures value { LineGives (λ l. record { label = option_map (λ w. w.now) l.label; know = l.know; does = l.does }) result
+        (unless (fault_behind kinds.Byte kinds.Extra row.old.words row.old.bad) (parts None None)) }
     ensures nothing { IfOk result (λ l. l.does ≡ None) }
 {
     match fault_behind(row) {
@@ -86,8 +90,9 @@ fn empty_at<'a>(row: &mut Row<'a>) -> Result<Line<'a>, At>
 
 /// What stands behind a label.
 #[tactic(auto, unfolding(crate::specs::Reading::rest_at))]
-fn rest_at<'a>(before: Before, line: u64, row: &mut Row<'a>) -> Result<Line<'a>, At>
-    ensures value { LineGives (λ l. record { label = option_map (λ w. w.now) l.label; know = l.know; does = l.does }) result (rest_at before.full before.known line row.old row.old.words) }
+fn rest_at<'a>(before: Before, line: u64, row: &mut TextLine<'a>) -> Result<Line<'a>, At>
+    ensures value { LineGives (λ l. record { label = option_map (λ w. w.now) l.label; know = l.know; does = l.does }) result
+        (rest_at before.full before.known line row.old row.old.words) }
     ensures room { IfOk result (λ l. IfSome l.does (λ _. before.full ≡ false)) }
 {
     match row.next_word() {
@@ -103,9 +108,11 @@ fn labelled_at<'a>(
     before: Before,
     line: u64,
     word: Placed<'a>,
-    row: &mut Row<'a>,
+    row: &mut TextLine<'a>,
 ) -> Result<Line<'a>, At>
-    ensures value { LineGives (λ l. record { label = option_map (λ w. w.now) l.label; know = l.know; does = l.does }) result (labelled_at labels.now before.full before.known line (record { column = word.entry.column; word = word.entry.word.now }) row.old (label_of word.entry.word.now)) }
+    ensures value { LineGives (λ l. record { label = option_map (λ w. w.now) l.label; know = l.know; does = l.does }) result
+        (labelled_at labels.now before.full before.known line (record { column = word.entry.column; word = word.entry.word.now }) row.old
+        (label_of word.entry.word.now)) }
     ensures room { IfOk result (λ l. IfSome l.does (λ _. before.full ≡ false)) }
 {
     let Some(name) = label_of(word.word) else {
@@ -130,9 +137,10 @@ pub(crate) fn line_at<'a>(
     labels: &Labels<'a>,
     before: Before,
     line: u64,
-    row: &mut Row<'a>,
+    row: &mut TextLine<'a>,
 ) -> Result<Line<'a>, At>
-    ensures value { LineGives (λ l. record { label = option_map (λ w. w.now) l.label; know = l.know; does = l.does }) result (line_at labels.now before.full before.known line row.old row.old.words) }
+    ensures value { LineGives (λ l. record { label = option_map (λ w. w.now) l.label; know = l.know; does = l.does }) result
+        (line_at labels.now before.full before.known line row.old row.old.words) }
     ensures room { IfOk result (λ l. IfSome l.does (λ _. before.full ≡ false)) }
 {
     match row.next_word() {

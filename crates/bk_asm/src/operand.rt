@@ -1,14 +1,16 @@
 ghost use Rattle.std.specs.Prelude.{◌≡◌, ◌<◌, ◌≤◌, ◌^◌, map, length, true, is_some, None, IfOk, IfSome};
 ghost use Rattle.std.specs.List.{list_all};
+ghost use Rattle.bk_text.specs.Faults.{Steps};
 ghost use Rattle.bk_asm.specs.Names.{named, has_value, joined, all_below};
 ghost use Rattle.bk_asm.specs.Operations.{operation_named};
 ghost use Rattle.bk_asm.specs.Ranges.{slot_ok, last_ok, is_target};
-ghost use Rattle.bk_asm.specs.Reading.{wrong, missing, word_in, field, operand, fault_behind, number_below, number_at, target_at, is_letter, is_label_byte, is_label, slot_at, last_at, Steps};
+ghost use Rattle.bk_asm.specs.Reading.{field, operand, number_below, number_at, target_at, is_letter, is_label_byte, is_label, slot_at, last_at};
 
 use crate::fault::{At, Kind};
 use crate::names::{class_names, joined, named, names_of, value_names};
-use crate::operation::{Last, Operation, Slot, operation_named};
-use bk_text::{Placed, Row, is_text_byte, number};
+use crate::operation::{Operation, operation_named};
+use crate::slots::{Last, Slot};
+use bk_text::{TextLine, number, word_at, wrong};
 use std::marker::Model;
 
 /// What separates the names of a set.
@@ -32,62 +34,9 @@ impl<'a> Model for Target<'a> {
     ghost view = { λ t. record { line = t.line; column = t.column; name = t.name.now } };
 }
 
-/// What is wrong with a word that should be something else.
-pub(crate) fn wrong(word: Placed<'_>, kind: Kind) -> At
-    ensures { result ≡ wrong (record { column = word.entry.column; word = word.entry.word.now }) kind }
-{
-    let kind = match word.word {
-        [first, ..] if !is_text_byte(*first) => Kind::Byte,
-        _ => kind,
-    };
-    At {
-        column: word.column,
-        kind,
-    }
-}
-
-/// What is wrong where a word is missing.
-fn missing(row: &Row<'_>, kind: Kind) -> At
-    ensures { result ≡ missing row.now kind }
-{
-    match row.bad_byte() {
-        Some(column) => At {
-            column,
-            kind: Kind::Byte,
-        },
-        None => At {
-            column: row.end(),
-            kind,
-        },
-    }
-}
-
-/// The next word, which has to be there.
-pub(crate) fn word_at<'a>(kind: Kind, row: &mut Row<'a>) -> Result<Placed<'a>, At>
-    ensures { Steps (λ w. record { column = w.column; word = w.word.now }) result row.new (word_in kind row.old row.old.words) }
-{
-    match row.next_word() {
-        Some(word) => Ok(word),
-        None => Err(missing(row, kind)),
-    }
-}
-
-/// What is wrong behind the last word of a line.
-pub(crate) fn fault_behind(row: &mut Row<'_>) -> Option<At>
-    ensures { result ≡ fault_behind row.old.words row.old.bad }
-{
-    match row.next_word() {
-        Some(word) => Some(wrong(word, Kind::Extra)),
-        None => row.bad_byte().map(|column| At {
-            column,
-            kind: Kind::Byte,
-        }),
-    }
-}
-
 /// An operand that is a name.
 #[tactic(auto, unfolding(crate::specs::Reading::field))]
-fn name_at(names: &[(&str, u8)], row: &mut Row<'_>) -> Result<u8, At>
+fn name_at(names: &[(&str, u8)], row: &mut TextLine<'_>) -> Result<u8, At>
     ensures value { Steps (λ x. x) result row.new (operand (named (map (λ name. (name.0.now, name.1)) names.now)) row.old) }
     ensures range { IfOk result (λ n. has_value (map (λ name. (name.0.now, name.1)) names.now) n ≡ true) }
 {
@@ -100,7 +49,7 @@ fn name_at(names: &[(&str, u8)], row: &mut Row<'_>) -> Result<u8, At>
 
 /// An operand that is a set of names.
 #[tactic(auto, unfolding(crate::specs::Reading::field))]
-fn set_at(names: &[(&str, u8)], row: &mut Row<'_>) -> Result<u8, At>
+fn set_at(names: &[(&str, u8)], row: &mut TextLine<'_>) -> Result<u8, At>
     requires few { length names.now ≤ 7 }
     requires below { all_below (length names.now) (map (λ name. (name.0.now, name.1)) names.now) ≡ true }
     ensures value { Steps (λ x. x) result row.new (operand (joined (map (λ name. (name.0.now, name.1)) names.now) 44) row.old) }
@@ -118,7 +67,7 @@ fn set_at(names: &[(&str, u8)], row: &mut Row<'_>) -> Result<u8, At>
 #[tactic(auto, unfolding(crate::specs::Reading::field))]
 pub(crate) fn pushed_at(
     operations: &[(&str, Operation)],
-    row: &mut Row<'_>,
+    row: &mut TextLine<'_>,
 ) -> Result<Operation, At>
     ensures { Steps (λ x. x) result row.new (operand (operation_named (map (λ m. (m.0.now, m.1)) operations.now)) row.old) }
 {
@@ -130,7 +79,7 @@ pub(crate) fn pushed_at(
 }
 
 /// An operand a, b or c. `field` is the know field that stands before a set of values.
-pub(crate) fn slot_at(slot: Slot, field: u8, row: &mut Row<'_>) -> Result<u8, At>
+pub(crate) fn slot_at(slot: Slot, field: u8, row: &mut TextLine<'_>) -> Result<u8, At>
     ensures value { Steps (λ x. x) result row.new (slot_at slot field row.old) }
     ensures range { IfOk result (λ n. slot_ok slot field n ≡ true) }
 {
@@ -161,7 +110,7 @@ fn number_below(limit: u64, word: &[u8]) -> Option<u64>
 
 /// A last operand that is a number below a limit of at most 2^32.
 #[tactic(auto, unfolding(crate::specs::Reading::number_at, crate::specs::Reading::field))]
-fn number_at<'a>(limit: u64, row: &mut Row<'a>) -> Result<(u32, Option<Target<'a>>), At>
+fn number_at<'a>(limit: u64, row: &mut TextLine<'a>) -> Result<(u32, Option<Target<'a>>), At>
     requires { limit ≤ 2 ^ 32 }
     ensures value { Steps (λ x. x) result row.new (number_at limit row.old) }
     ensures range { IfOk result (λ x. x.0 < limit) }
@@ -209,7 +158,7 @@ pub(crate) fn is_label(word: &[u8]) -> bool
 
 /// A last operand that is a label.
 #[tactic(auto, unfolding(crate::specs::Reading::target_at))]
-fn target_at<'a>(line: u64, row: &mut Row<'a>) -> Result<(u32, Option<Target<'a>>), At>
+fn target_at<'a>(line: u64, row: &mut TextLine<'a>) -> Result<(u32, Option<Target<'a>>), At>
     ensures value { Steps (λ x. x) result row.new (target_at line row.old) }
     ensures range { IfOk result (λ x. x.0 ≡ 0) }
     ensures target { IfOk result (λ x. is_some x.1 ≡ true) }
@@ -230,7 +179,7 @@ fn target_at<'a>(line: u64, row: &mut Row<'a>) -> Result<(u32, Option<Target<'a>
 pub(crate) fn last_at<'a>(
     last: Last,
     line: u64,
-    row: &mut Row<'a>,
+    row: &mut TextLine<'a>,
 ) -> Result<(u32, Option<Target<'a>>), At>
     ensures value { Steps (λ x. x) result row.new (last_at last line row.old) }
     ensures range { IfOk result (λ x. last_ok last x.0 ≡ true) }

@@ -1,17 +1,18 @@
 ghost use Rattle.std.specs.Prelude.{◌≡◌, true, false, IfOk};
-ghost use Rattle.bk_asm.specs.Faults.{at};
+ghost use Rattle.bk_text.specs.Faults.{at, Steps};
 ghost use Rattle.bk_asm.specs.declared.fault.Kind.TheVariants as kinds;
 ghost use Rattle.bk_isa.specs.Fields.{fields_with, pack, AreWide};
-ghost use Rattle.bk_asm.specs.Operations.{shape, opcode};
+ghost use Rattle.bk_asm.specs.Operations.{slots_of, opcode};
 ghost use Rattle.bk_asm.specs.Programs.{form_with};
 ghost use Rattle.bk_asm.specs.Ranges.{last_ok, IsReady};
-ghost use Rattle.bk_asm.specs.Reading.{operands_at, mnemonic_at, Steps};
+ghost use Rattle.bk_asm.specs.Reading.{operands_at, mnemonic_at};
 
 use crate::fault::{At, Kind};
-use crate::operand::{Target, fault_behind, last_at, pushed_at, slot_at, wrong};
+use crate::operand::{Target, last_at, pushed_at, slot_at};
 use crate::operation::{Operation, mnemonics, operation_named, pushed};
+use crate::slots::slots_of;
 use bk_isa::{Instr, instr_of};
-use bk_text::{Placed, Row};
+use bk_text::{Placed, TextLine, fault_behind, wrong};
 use std::marker::Model;
 
 /// An instruction with its operands, whose target is still a label. Contracts see the operation, the
@@ -53,7 +54,7 @@ impl<'a> Statement<'a> {
 
     /// The instruction, with this last operand.
     pub fn with_last(&self, last: u32) -> Instr
-        requires { IsReady self.now → last_ok (shape self.now.operation).last last ≡ true }
+        requires { IsReady self.now → last_ok (slots_of self.now.operation).last last ≡ true }
         ensures { result ≡ form_with self.now last }
     {
         match instr_of(self.word_with(last)) {
@@ -65,7 +66,7 @@ impl<'a> Statement<'a> {
     /// The last operand, where that is no label.
     pub fn last(&self) -> u32
         ensures value { result ≡ self.now.imm }
-        ensures range { last_ok (shape self.now.operation).last result ≡ true }
+        ensures range { last_ok (slots_of self.now.operation).last result ≡ true }
     {
         self.imm
     }
@@ -76,15 +77,15 @@ impl<'a> Statement<'a> {
 pub(crate) fn operands_at<'a>(
     line: u64,
     operation: Operation,
-    row: &mut Row<'a>,
+    row: &mut TextLine<'a>,
 ) -> Result<Statement<'a>, At>
     ensures { result ≡ operands_at line operation row.old }
 {
-    let shape = operation.shape();
-    let a = slot_at(shape.a, 0, row)?;
-    let b = slot_at(shape.b, a, row)?;
-    let c = slot_at(shape.c, a, row)?;
-    let (imm, target) = last_at(shape.last, line, row)?;
+    let slots = slots_of(operation);
+    let a = slot_at(slots.a, 0, row)?;
+    let b = slot_at(slots.b, a, row)?;
+    let c = slot_at(slots.c, a, row)?;
+    let (imm, target) = last_at(slots.last, line, row)?;
     match fault_behind(row) {
         None => Ok(Statement {
             operation,
@@ -110,8 +111,13 @@ fn too_many(word: Placed<'_>) -> At
 
 /// The operation of a mnemonic, of which `full` says that an image has no room for it.
 #[tactic(auto, unfolding(crate::specs::Reading::mnemonic_at))]
-pub(crate) fn mnemonic_at(full: bool, word: Placed<'_>, row: &mut Row<'_>) -> Result<Operation, At>
-    ensures value { Steps (λ x. x) result row.new (mnemonic_at full (record { column = word.entry.column; word = word.entry.word.now }) row.old) }
+pub(crate) fn mnemonic_at(
+    full: bool,
+    word: Placed<'_>,
+    row: &mut TextLine<'_>,
+) -> Result<Operation, At>
+    ensures value { Steps (λ x. x) result row.new
+        (mnemonic_at full (record { column = word.entry.column; word = word.entry.word.now }) row.old) }
     ensures room { IfOk result (λ _. full ≡ false) }
 {
     if word.word == b"pushq".as_slice() {

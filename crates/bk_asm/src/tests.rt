@@ -4,8 +4,33 @@ use bk_isa::instr_of;
 use std::test::*;
 
 /// The canonical text of an image that serves requests past the caches.
-const UNCACHED: &str =
-    "L000:\n  wfq resp,req\n  bk head Request L004\n  popq wp\n  bi L000\nL004:\n  bk gp free L009\n  defer\n  wfq resp\n  popq wp\n  bi L000\nL009:\n  popq wp\n  bk kind UcRd L015\n  pushq memww\n  pushq ucdone\n  fin\n  bi L000\nL015:\n  pushq memrd\n  wfq mem\n  popq\n  pushq ucblk\n  fin\n  bi L000\n";
+const UNCACHED: &str = "\
+L000:
+  wfq resp,req
+  bk head Request L004
+  popq wp
+  bi L000
+L004:
+  bk gp free L009
+  defer
+  wfq resp
+  popq wp
+  bi L000
+L009:
+  popq wp
+  bk kind UcRd L015
+  pushq memww
+  pushq ucdone
+  fin
+  bi L000
+L015:
+  pushq memrd
+  wfq mem
+  popq
+  pushq ucblk
+  fin
+  bi L000
+";
 
 /// The line, the column and the kind of a text's fault.
 fn fault_of(rt: &HostRuntime, text: &[u8]) -> Option<[u64; 3]> {
@@ -115,7 +140,10 @@ fn images(rt: HostRuntime) -> Result<(), Fail> {
         ("wfq req,req,mem\n", "0000000000000650"),
         (
             UNCACHED,
-            "00000000000005500400000000020225000000000000015100000000000000200900000000010325000000000000005200000000000001500000000000000151000000000000002000000000000001510f000000000404250000000000000069000000000000006500000000000000440000000000000020000000000000006700000000000002500000000000000051000000000000006400000000000000440000000000000020",
+            "000000000000055004000000000202250000000000000151000000000000002009000000000103250000000000000052\
+            00000000000001500000000000000151000000000000002000000000000001510f000000000404250000000000000069\
+            000000000000006500000000000000440000000000000020000000000000006700000000000002500000000000000051\
+            000000000000006400000000000000440000000000000020",
         ),
     ] {
         assert!(rt; digits_of(&rt, text)?.as_str() == digits, "{text:?}");
@@ -153,7 +181,8 @@ fn canonical_texts(rt: HostRuntime) -> Result<(), Fail> {
         ),
         (
             "know held own=S|I others=no|yes gp=pending\nnop\nknow idle stage=Closing|Held\nmovi r7 0xff",
-            "  know held gp=pending own=I|S\n  nop\n  know held stage=Held|Closing kind=Rd own=I owner=none others=no victim=light\n  movi r7 255\n",
+            "  know held gp=pending own=I|S\n  nop\n  \
+            know held stage=Held|Closing kind=Rd own=I owner=none others=no victim=light\n  movi r7 255\n",
         ),
         (
             "a: bk kind Evict,Rd a\npopq\npopq wp\ninv o\n",

@@ -12,7 +12,7 @@ ghost use Rattle.bk_asm.specs.Writing.{name_of, is_in, set_text, slot_text, labe
 
 use crate::mnemonic::{mnemonic, operation_of};
 use crate::names::{Names, class_names, names_of, value_names};
-use crate::operation::{Last, Slot};
+use crate::slots::{Last, Slot, slots_of};
 use bk_image::Image;
 use bk_isa::{Instr, word_of};
 use bk_know::{Know, Sets, field, held, idle, subset};
@@ -79,7 +79,8 @@ fn push_set(
     separator: &str,
     set: u8,
 ) -> Result<(), AllocError>
-    ensures { OnOk result (string_bytes out.new ≡ string_bytes out.old ++ set_text (map (λ name. (name.0.now, name.1)) names.now) true separator.now set) }
+    ensures { OnOk result (string_bytes out.new ≡ string_bytes out.old
+        ++ set_text (map (λ name. (name.0.now, name.1)) names.now) true separator.now set) }
 {
     let mut first = true;
     for (name, value) in names {
@@ -148,13 +149,13 @@ fn push_form(out: &mut String, instr: Instr) -> Result<(), AllocError>
     ensures in_range { OnOk result (IsInRange instr) }
 {
     let operation = operation_of(instr.form());
-    let shape = operation.shape();
+    let slots = slots_of(operation);
     let Operands { a, b, c, imm } = operands_of(instr);
     out.push_str(mnemonic(operation))?;
-    push_slot(out, shape.a, 0, a)?;
-    push_slot(out, shape.b, a, b)?;
-    push_slot(out, shape.c, a, c)?;
-    push_last(out, shape.last, imm)
+    push_slot(out, slots.a, 0, a)?;
+    push_slot(out, slots.b, a, b)?;
+    push_slot(out, slots.c, a, c)?;
+    push_last(out, slots.last, imm)
 }
 
 /// Writes a field and the names of its values, if its set differs from that of a base.
@@ -182,7 +183,8 @@ fn push_fields(
     sets: Sets,
     names: &[(&str, u8)],
 ) -> Result<(), AllocError>
-    ensures { OnOk result (string_bytes out.new ≡ string_bytes out.old ++ fields_text (map (λ name. (name.0.now, name.1)) names.now) base sets) }
+    ensures { OnOk result (string_bytes out.new ≡ string_bytes out.old
+        ++ fields_text (map (λ name. (name.0.now, name.1)) names.now) base sets) }
 {
     for (name, number) in names {
         push_field(out, base, sets, name, *number)?;
@@ -199,7 +201,8 @@ fn push_based(
     base: Sets,
     sets: Sets,
 ) -> Result<(), AllocError>
-    ensures { OnOk result (string_bytes out.new ≡ string_bytes out.old ++ based_text (map (λ name. (name.0.now, name.1)) fields.now) name.now base sets) }
+    ensures { OnOk result (string_bytes out.new ≡ string_bytes out.old
+        ++ based_text (map (λ name. (name.0.now, name.1)) fields.now) name.now base sets) }
 {
     out.push_str("  know ")?;
     out.push_str(name)?;
@@ -227,7 +230,7 @@ fn push_know(out: &mut String, know: Know) -> Result<(), AllocError>
 fn goes_to(place: u32, instr: Instr) -> bool
     ensures { result ≡ goes_to place instr }
 {
-    let last = operation_of(instr.form()).shape().last;
+    let last = slots_of(operation_of(instr.form())).last;
     is_target(last) && operands_of(instr).imm == place
 }
 

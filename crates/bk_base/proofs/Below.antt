@@ -22,11 +22,13 @@ all_below-always zero = refl
 all_below-always (suc n) = rw (all_below-always n) refl
 
 -- one number more that has no answer
-pub first_below-more : {X : Type 0} (n : ℕ) (f : ℕ → Option X) → first_below n f ≡ None → f n ≡ None → first_below (n + 1) f ≡ None
+pub first_below-more : {X : Type 0} (n : ℕ) (f : ℕ → Option X) → first_below n f ≡ None → f n ≡ None
+    → first_below (n + 1) f ≡ None
 first_below-more n f h e = rw (add-one, h, e) refl
 
 -- the first answer stays the first
-pub first_below-found : {X : Type 0} (n i : ℕ) (f : ℕ → Option X) (x : X) → i < n → first_below i f ≡ None → f i ≡ Some x → first_below n f ≡ Some x
+pub first_below-found : {X : Type 0} (n i : ℕ) (f : ℕ → Option X) (x : X) → i < n → first_below i f ≡ None → f i ≡ Some x
+    → first_below n f ≡ Some x
 first_below-found zero i f x l h e = absurd (omega arith)
 first_below-found (suc n) i f x l h e =
     elim (cases_eq i n) [
@@ -40,9 +42,9 @@ first_below-never zero f h = refl
 first_below-never (suc n) f h = rw (first_below-never n f h, h n) refl
 
 -- nor in a square of numbers
-pub all_below-squares : (n m : ℕ) → all_below n (λ i. all_below m (λ j. true)) ≡ true
-all_below-squares zero m = refl
-all_below-squares (suc n) m = rw (all_below-squares n m, all_below-always m) refl
+pub all_below-squares : (n number : ℕ) → all_below n (λ i. all_below number (λ j. true)) ≡ true
+all_below-squares zero number = refl
+all_below-squares (suc n) number = rw (all_below-squares n number, all_below-always number) refl
 
 or_else-none : {X : Type 0} (a b : Option X) → or_else a b ≡ None → (a ≡ None) × (b ≡ None)
 or_else-none None b h = (refl, h)
@@ -73,27 +75,30 @@ first_below-some (suc n) f x h =
     ]
 
 -- one number more that doesn't pass
-pub least_below-more : (n : ℕ) (test : ℕ → Bool) → least_below n test ≡ None → test n ≡ false → least_below (n + 1) test ≡ None
+pub least_below-more : (n : ℕ) (test : ℕ → Bool) → least_below n test ≡ None → test n ≡ false
+    → least_below (n + 1) test ≡ None
 least_below-more n test h e = rw (add-one, h, e) refl
 
 -- the first number that passes is the least
-pub least_below-found : (n i : ℕ) (test : ℕ → Bool) → i < n → least_below i test ≡ None → test i ≡ true → least_below n test ≡ Some i
+pub least_below-found : (n i : ℕ) (test : ℕ → Bool) → i < n → least_below i test ≡ None → test i ≡ true
+    → least_below n test ≡ Some i
 least_below-found n i test l h e = first_below-found n i (λ k. if test k then Some k else None) i l h (rw e refl)
 
 chosen-none : (b : Bool) (i : ℕ) → (if b then Some i else None) ≡ None → b ≡ false
 chosen-none true i h = absurd (cc)
 chosen-none false i h = refl
 
-chosen-some : (b : Bool) (i k : ℕ) → (if b then Some i else None) ≡ Some k → (b ≡ true) × (i ≡ k)
-chosen-some true i k h = (refl, cc)
-chosen-some false i k h = absurd (cc)
+chosen-some : (b : Bool) (i number : ℕ) → (if b then Some i else None) ≡ Some number → (b ≡ true) × (i ≡ number)
+chosen-some true i number h = (refl, cc)
+chosen-some false i number h = absurd (cc)
 
 -- where there is no least number, none passes
 pub least_below-none : (n : ℕ) (test : ℕ → Bool) → least_below n test ≡ None → (i : ℕ) → i < n → test i ≡ false
 least_below-none n test h i l = chosen-none (test i) i (first_below-none n (λ k. if test k then Some k else None) h i l)
 
 -- the least number is below the count, it passes, and no less number does
-pub least_below-some : (n : ℕ) (test : ℕ → Bool) (i : ℕ) → least_below n test ≡ Some i → (i < n) × (test i ≡ true) × ((j : ℕ) → j < i → test j ≡ false)
+pub least_below-some : (n : ℕ) (test : ℕ → Bool) (i : ℕ) → least_below n test ≡ Some i
+    → (i < n) × (test i ≡ true) × ((j : ℕ) → j < i → test j ≡ false)
 least_below-some n test i h =
     let found = first_below-some n (λ k. if test k then Some k else None) i h in
     let chosen = chosen-some (test found.0) found.0 i found.2 in

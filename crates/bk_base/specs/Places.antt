@@ -18,10 +18,10 @@ abbrev pub is_small_count : ℕ → Bool
 is_small_count n = nat_le 1 n && nat_le n 8
 
 -- the profile: 1 to 8 caches, a power of two up to 64 of sets, 1 to 8 ways
-pub record InProfile (s : Shape) : Type 0 where
-  pub caches : IsTrue (is_small_count s.caches)
-  pub sets : IsTrue (is_set_count s.sets)
-  pub ways : IsTrue (is_small_count s.ways)
+pub record InProfile (k : Shape) : Type 0 where
+  pub caches : IsTrue (is_small_count k.caches)
+  pub sets : IsTrue (is_set_count k.sets)
+  pub ways : IsTrue (is_small_count k.ways)
 
 -- the configuration of three numbers, or the first of them that is outside the profile
 abbrev pub config_of : ℕ → ℕ → ℕ → Result Shape BadConfig
@@ -52,23 +52,23 @@ abbrev pub word_of : ℕ → ℕ
 word_of addr = addr / 8 % 8
 
 abbrev pub set_of : Shape → ℕ → ℕ
-set_of s block = block % s.sets
+set_of k block = block % k.sets
 
 abbrev pub tag_of : Shape → ℕ → ℕ
-tag_of s block = block / s.sets
+tag_of k block = block / k.sets
 
 -- the way group of an address: its block's set
 abbrev pub group_of : Shape → ℕ → ℕ
-group_of s addr = set_of s (block_of addr)
+group_of k addr = set_of k (block_of addr)
 
 -- the tag of an address's block
 abbrev pub tag_at : Shape → ℕ → ℕ
-tag_at s addr = tag_of s (block_of addr)
+tag_at k addr = tag_of k (block_of addr)
 
 -- each tag is below this: blocks are below 2^34
 abbrev pub tag_limit : Shape → ℕ
-tag_limit s = 2 ^ 34 / s.sets
+tag_limit k = 2 ^ 34 / k.sets
 
 -- the address of the first word of the block with this tag in a set
 abbrev pub address_in : Shape → ℕ → ℕ → ℕ
-address_in s set tag = (tag * s.sets + set) * 64
+address_in k set tag = (tag * k.sets + set) * 64

@@ -13,7 +13,8 @@ code_of O = 7
 
 -- the state with a code
 abbrev pub state_of_code : ℕ → Option Coh
-state_of_code n = if n == 0 then Some I else if n == 1 then Some S else if n == 2 then Some E else if n == 3 then Some F else if n == 6 then Some M else if n == 7 then Some O else None
+state_of_code n = if n == 0 then Some I else if n == 1 then Some S else if n == 2 then Some E else if n == 3 then Some F else if n == 6
+    then Some M else if n == 7 then Some O else None
 
 -- a load may read each copy but an invalid one
 abbrev pub is_readable : Coh → Bool

@@ -2,4 +2,4 @@
 use Rattle.std.specs.Prelude.{ℕ, cond, eqb}
 
 unfoldable pub put : {X : Type 0} → (ℕ → X) → ℕ → X → ℕ → X
-put f k v j = cond (eqb j k) v (f j)
+put f number v j = cond (eqb j number) v (f j)

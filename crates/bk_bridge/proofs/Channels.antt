@@ -28,7 +28,9 @@ pushed-to h channel c m y e =
     put-of (filter_map h) channel c (channel c ++ m ∷ []) (filter_map h (channel c) ++ y ∷ []) (pushed h (channel c) m y e)
 
 -- a channel of a number without its head
-pub left : {X : Type 0} (h : Row → Option X) (channel : ℕ → List Row) (c : ℕ) (m : Row) (rest : List Row) → channel c ≡ m ∷ rest
-    → ◌≡◌ {A = ℕ → List X} (λ i. filter_map h (put channel c (drop 1 (channel c)) i)) (put (λ i. filter_map h (channel i)) c (filter_map h rest))
+pub left : {X : Type 0} (h : Row → Option X) (channel : ℕ → List Row) (c : ℕ) (m : Row) (rest : List Row)
+    → channel c ≡ m ∷ rest
+    → ◌≡◌ {A = ℕ → List X} (λ i. filter_map h (put channel c (drop 1 (channel c)) i))
+    (put (λ i. filter_map h (channel i)) c (filter_map h rest))
 left h channel c m rest e =
     put-of (filter_map h) channel c (drop 1 (channel c)) (filter_map h rest) (ap (λ (ms : List Row). filter_map h (drop 1 ms)) e)

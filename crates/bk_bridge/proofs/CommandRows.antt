@@ -19,7 +19,7 @@ use Rattle.bk_system.specs.Events.{with_taken}
 use Rattle.bk_machine.specs.Messages.{Op, op_tag, ToCache, InvAck, CohAck, Wb, NullWb, answer_of}
 use Rattle.bk_machine.specs.Transactions.{Transaction}
 use Rattle.bk_machine.specs.Products.{words_of, op_of, as_request, as_fill, as_response, completed_of}
-use Rattle.bk_machine.specs.Steps.{step_after, InvComes, FlushComes, TransferComes, completes, fills_entry, touched}
+use Rattle.bk_machine.specs.Steps.{step_after, InvComes, FlushComes, TransferComes, with_completion, with_filled_entry, with_way_first}
 use Rattle.bk_bridge.specs.Worlds.{world_of, entry_of}
 use Rattle.bk_bridge.proofs.Places.{group-start, tag-start}
 use Rattle.bk_bridge.proofs.Tables.{put-same, put-of, put-put2}
@@ -29,28 +29,30 @@ use Rattle.bk_bridge.proofs.Sent.{response-no_request, response-to, response-no_
 use Rattle.bk_bridge.proofs.Same.{world}
 
 -- Inv: each line that holds the block becomes I, and InvAck is sent
-pub inv_row : (k : Shape) (p : State) (x : Option (ℕ × Transaction)) (c addr : ℕ) (C : ℕ → List (ℕ × ToCache)) (rest : List (ℕ × ToCache))
-    → (world_of k p x).command ≡ put C c rest
-    → world_of k (with_taken p c (table.answers (table.invalidated k (p.caches c) addr) (rows.InvAck c ENGINE (block_start addr)))).state x
-    ≡ step_after (group_of k addr) (InvComes c (tag_at k addr) rest) (record (world_of k p x) { command = C })
-inv_row k p x c addr C rest e = world (record {
-  held = table-wiped p.caches c (group_of k addr) (tag_at k addr) _ (wiped-of (p.caches c).lines (group_of k addr) (tag_at k addr));
-  words = table-kept seen_words p.caches c _ (wiped-words (p.caches c).lines (group_of k addr) (tag_at k addr));
+pub inv_row : (k : Shape) (s : State) (x : Option (ℕ × Transaction)) (c addr : ℕ) (C : ℕ
+    → List (ℕ × ToCache)) (rest : List (ℕ × ToCache))
+    → (world_of k s x).command ≡ put C c rest
+    → world_of k (with_taken s c
+    (table.answer_row (table.with_invalid_block k (s.caches c) addr) (rows.InvAck c ENGINE (block_start addr)))).state x
+    ≡ step_after (group_of k addr) (InvComes c (tag_at k addr) rest) (record (world_of k s x) { command = C })
+inv_row k s x c addr C rest e = world (record {
+  entries = table-wiped s.caches c (group_of k addr) (tag_at k addr) _ (wiped-of (s.caches c).lines (group_of k addr) (tag_at k addr));
+  words = table-kept seen_words s.caches c _ (wiped-words (s.caches c).lines (group_of k addr) (tag_at k addr));
   directory = refl;
-  recency = pair-kept seen_recency p.caches c _ refl;
-  busy = put-same (seen_busy k) p.caches c _ refl;
+  recency = pair-kept seen_recency s.caches c _ refl;
+  busy = put-same (seen_busy k) s.caches c _ refl;
   pending = refl;
   memory = refl;
   request = refl;
   command = e;
   fill = refl;
-  response = pushed-to (as_response k) p.response c _ _ (λ i. Some (group-start k addr i, InvAck (tag-start k addr i)));
+  response = pushed-to (as_response k) s.response c _ _ (λ i. Some (group-start k addr i, InvAck (tag-start k addr i)));
   memout = refl;
   memin = refl;
   transaction = refl;
-  history = unlisted (completed_of k) p.history;
-  taken = refl;
-  settled = refl;
+  history = unlisted (completed_of k) s.history;
+  taken_count = refl;
+  settled_count = refl;
 })
 
 -- what a cache answers to StWb
@@ -75,35 +77,35 @@ said-done : (k : Shape) (c : ℕ) (op : Operation) (g : ℕ) (o : Op) (answer : 
 said-done k c op g o answer e = ap (λ (q : ℕ × Op). (q.0, record { cache = c; op = q.1; answer = answer })) e
 
 -- StWb: the copy takes the state, and Wb or NullWb is sent
-pub flush_row : (k : Shape) (p : State) (x : Option (ℕ × Transaction)) (c addr v : ℕ) (state : Coh) (C : ℕ → List (ℕ × ToCache))
+pub flush_row : (k : Shape) (s : State) (x : Option (ℕ × Transaction)) (c addr w : ℕ) (state : Coh) (C : ℕ → List (ℕ × ToCache))
     (rest : List (ℕ × ToCache))
-    → (world_of k p x).command ≡ put C c rest
-    → world_of k (with_taken p c (table.answers (table.lowered k (p.caches c) addr v state)
-    (table.flush_answer c addr (line_at k (p.caches c) addr v)))).state x
-    ≡ step_after (group_of k addr) (FlushComes c v (tag_at k addr) state rest) (record (world_of k p x) { command = C })
-flush_row k p x c addr v state C rest e = world (record {
-  held = table-written seen_entries p.caches c _ (group_of k addr) v _ (line-of entry_of (p.caches c).lines (group_of k addr) v _);
-  words = table-kept seen_words p.caches c _ (line-same (λ (l : Line). words_of l.words) (p.caches c).lines (group_of k addr) v _ refl);
+    → (world_of k s x).command ≡ put C c rest
+    → world_of k (with_taken s c (table.answer_row (table.with_line_state k (s.caches c) addr w state)
+    (table.flush_answer c addr (line_at k (s.caches c) addr w)))).state x
+    ≡ step_after (group_of k addr) (FlushComes c w (tag_at k addr) state rest) (record (world_of k s x) { command = C })
+flush_row k s x c addr w state C rest e = world (record {
+  entries = table-written seen_entries s.caches c _ (group_of k addr) w _ (line-of entry_of (s.caches c).lines (group_of k addr) w _);
+  words = table-kept seen_words s.caches c _ (line-same (λ (l : Line). words_of l.words) (s.caches c).lines (group_of k addr) w _ refl);
   directory = refl;
-  recency = pair-kept seen_recency p.caches c _ refl;
-  busy = put-same (seen_busy k) p.caches c _ refl;
+  recency = pair-kept seen_recency s.caches c _ refl;
+  busy = put-same (seen_busy k) s.caches c _ refl;
   pending = refl;
   memory = refl;
-  request = ap (λ (h : ℕ → List Row). λ i. filter_map (as_request k) (h i)) (response-no_request c m p.request network);
+  request = ap (λ (h : ℕ → List Row). λ i. filter_map (as_request k) (h i)) (response-no_request c m s.request network);
   command = e;
-  fill = ap (λ (h : ℕ → ℕ → List Row). λ to from. filter_map (as_fill k) (h to from)) (response-no_fill c m p.fill network);
-  response = ap (λ (h : ℕ → List Row). λ i. filter_map (as_response k) (h i)) (response-to c m p.response network)
-      ∙ pushed-to (as_response k) p.response c m _ (flush-said k c addr line.words (is_dirty line.state));
+  fill = ap (λ (h : ℕ → ℕ → List Row). λ to from. filter_map (as_fill k) (h to from)) (response-no_fill c m s.fill network);
+  response = ap (λ (h : ℕ → List Row). λ i. filter_map (as_response k) (h i)) (response-to c m s.response network)
+      ∙ pushed-to (as_response k) s.response c m _ (flush-said k c addr line.words (is_dirty line.state));
   memout = refl;
   memin = refl;
   transaction = refl;
-  history = unlisted (completed_of k) p.history;
-  taken = refl;
-  settled = refl;
+  history = unlisted (completed_of k) s.history;
+  taken_count = refl;
+  settled_count = refl;
 })
   where
     line : Line
-    line = line_at k (p.caches c) addr v
+    line = line_at k (s.caches c) addr w
 
     m : Row
     m = table.flush_answer c addr line
@@ -112,92 +114,97 @@ flush_row k p x c addr v state C rest e = world (record {
     network = flush-network c addr line.words (is_dirty line.state)
 
 -- StTr: the copy takes the state, and its words are sent to the peer
-pub transfer_row : (k : Shape) (p : State) (x : Option (ℕ × Transaction)) (c addr v : ℕ) (state : Coh) (peer peer_way : ℕ) (peer_state : Coh)
-    (C : ℕ → List (ℕ × ToCache)) (rest : List (ℕ × ToCache)) → (world_of k p x).command ≡ put C c rest
-    → world_of k (with_taken p c (table.answers (table.lowered k (p.caches c) addr v state)
-    (rows.Fill c peer peer_way peer_state (block_start addr) (line_at k (p.caches c) addr v).words))).state x
-    ≡ step_after (group_of k addr) (TransferComes c v (tag_at k addr) state peer peer_way peer_state rest) (record (world_of k p x) { command = C })
-transfer_row k p x c addr v state peer peer_way peer_state C rest e = world (record {
-  held = table-written seen_entries p.caches c _ (group_of k addr) v _ (line-of entry_of (p.caches c).lines (group_of k addr) v _);
-  words = table-kept seen_words p.caches c _ (line-same (λ (l : Line). words_of l.words) (p.caches c).lines (group_of k addr) v _ refl);
+pub transfer_row : (k : Shape) (s : State) (x : Option (ℕ × Transaction)) (c addr w : ℕ) (state : Coh) (peer peer_way : ℕ)
+    (peer_state : Coh)
+    (C : ℕ → List (ℕ × ToCache)) (rest : List (ℕ × ToCache)) → (world_of k s x).command ≡ put C c rest
+    → world_of k (with_taken s c (table.answer_row (table.with_line_state k (s.caches c) addr w state)
+    (rows.Fill c peer peer_way peer_state (block_start addr) (line_at k (s.caches c) addr w).words))).state x
+    ≡ step_after (group_of k addr) (TransferComes c w (tag_at k addr) state peer peer_way peer_state rest)
+    (record (world_of k s x) { command = C })
+transfer_row k s x c addr w state peer peer_way peer_state C rest e = world (record {
+  entries = table-written seen_entries s.caches c _ (group_of k addr) w _ (line-of entry_of (s.caches c).lines (group_of k addr) w _);
+  words = table-kept seen_words s.caches c _ (line-same (λ (l : Line). words_of l.words) (s.caches c).lines (group_of k addr) w _ refl);
   directory = refl;
-  recency = pair-kept seen_recency p.caches c _ refl;
-  busy = put-same (seen_busy k) p.caches c _ refl;
+  recency = pair-kept seen_recency s.caches c _ refl;
+  busy = put-same (seen_busy k) s.caches c _ refl;
   pending = refl;
   memory = refl;
   request = refl;
   command = e;
-  fill = put-put2 (filter_map (as_fill k)) p.fill peer c _ _
-      (pushed (as_fill k) (p.fill peer c) _ _ (λ i. Some (
+  fill = put-put2 (filter_map (as_fill k)) s.fill peer c _ _
+      (pushed (as_fill k) (s.fill peer c) _ _ (λ i. Some (
         group-start k addr i,
         record {
           tag = tag-start k addr i;
           way = peer_way;
           state = peer_state;
           words = words_of
-              (line_at k (p.caches c) addr v).words;
+              (line_at k (s.caches c) addr w).words;
         },
       )));
   response = refl;
   memout = refl;
   memin = refl;
   transaction = refl;
-  history = unlisted (completed_of k) p.history;
-  taken = refl;
-  settled = refl;
+  history = unlisted (completed_of k) s.history;
+  taken_count = refl;
+  settled_count = refl;
 })
 
 -- An operation completes: the cache is idle, CohAck is sent and the history has its answer. `old` is the cache's state but for that.
-pub completes_row : (k : Shape) (p : State) (x : Option (ℕ × Transaction)) (c : ℕ) (op : Operation) (addr : ℕ) (o : Op) (answer way : ℕ)
+pub completes_row : (k : Shape) (s : State) (x : Option (ℕ × Transaction)) (c : ℕ) (op : Operation) (addr : ℕ) (o : Op)
+    (answer way : ℕ)
     → op_of k op ≡ (group_of k addr, o) → op_tag o ≡ tag_at k addr
-    → world_of k (with_taken p c (table.completes (p.caches c) c op addr answer way)).state x ≡ completes (group_of k addr) c o answer
-    (world_of k p x)
-completes_row k p x c op addr o answer way e t = world (record {
-  held = table-kept seen_entries p.caches c _ (λ g w. refl);
-  words = table-kept seen_words p.caches c _ (λ g w. refl);
+    → world_of k (with_taken s c (table.completion_row (s.caches c) c op addr answer way)).state x
+    ≡ with_completion (group_of k addr) c o answer
+    (world_of k s x)
+completes_row k s x c op addr o answer way e t = world (record {
+  entries = table-kept seen_entries s.caches c _ (λ g w. refl);
+  words = table-kept seen_words s.caches c _ (λ g w. refl);
   directory = refl;
-  recency = pair-kept seen_recency p.caches c _ refl;
-  busy = put-of (seen_busy k) p.caches c _ _ refl;
+  recency = pair-kept seen_recency s.caches c _ refl;
+  busy = put-of (seen_busy k) s.caches c _ _ refl;
   pending = refl;
   memory = refl;
   request = refl;
   command = refl;
   fill = refl;
-  response = pushed-to (as_response k) p.response c _ _ (said-ack k c addr o t);
+  response = pushed-to (as_response k) s.response c _ _ (said-ack k c addr o t);
   memout = refl;
   memin = refl;
   transaction = refl;
-  history = listed (completed_of k) p.history _ _ (said-done k c op (group_of k addr) o answer e);
-  taken = refl;
-  settled = refl;
+  history = listed (completed_of k) s.history _ _ (said-done k c op (group_of k addr) o answer e);
+  taken_count = refl;
+  settled_count = refl;
 })
 
 -- A line is written and used, and an operation completes.
-pub fills_row : (k : Shape) (p : State) (x : Option (ℕ × Transaction)) (c : ℕ) (op : Operation) (addr : ℕ) (o : Op) (answer v : ℕ) (line : Line)
+pub fills_row : (k : Shape) (s : State) (x : Option (ℕ × Transaction)) (c : ℕ) (op : Operation) (addr : ℕ) (o : Op) (answer w : ℕ)
+    (line : Line)
     (ws : ℕ → ℕ)
     → op_of k op ≡ (group_of k addr, o) → op_tag o ≡ tag_at k addr → words_of line.words ≡ ws
-    → world_of k (with_taken p c (table.fills k (p.caches c) c op addr answer v line)).state x
-    ≡ completes (group_of k addr) c o answer (fills_entry (group_of k addr) c v line.tag line.state ws
-    (touched (group_of k addr) c v (world_of k p x)))
-fills_row k p x c op addr o answer v line ws e t f = world (record {
-  held = table-written seen_entries p.caches c _ (group_of k addr) v _ (line-of entry_of (p.caches c).lines (group_of k addr) v line);
+    → world_of k (with_taken s c (table.filled_row k (s.caches c) c op addr answer w line)).state x
+    ≡ with_completion (group_of k addr) c o answer (with_filled_entry (group_of k addr) c w line.tag line.state ws
+    (with_way_first (group_of k addr) c w (world_of k s x)))
+fills_row k s x c op addr o answer w line ws e t f = world (record {
+  entries = table-written seen_entries s.caches c _ (group_of k addr) w _ (line-of entry_of (s.caches c).lines (group_of k addr) w line);
   words =
-      table-written seen_words p.caches c _ (group_of k addr) v _
-      (line-of (λ (l : Line). words_of l.words) (p.caches c).lines (group_of k addr) v line)
-      ∙ ap (λ (ws : ℕ → ℕ). (fills_entry (group_of k addr) c v line.tag line.state ws (world_of k p x)).words) f;
+      table-written seen_words s.caches c _ (group_of k addr) w _
+      (line-of (λ (l : Line). words_of l.words) (s.caches c).lines (group_of k addr) w line)
+      ∙ ap (λ (ws : ℕ → ℕ). (with_filled_entry (group_of k addr) c w line.tag line.state ws (world_of k s x)).words) f;
   directory = refl;
-  recency = pair-written seen_recency p.caches c _ (group_of k addr) _ (used-recency (p.caches c) (group_of k addr) v);
-  busy = put-of (seen_busy k) p.caches c _ _ refl;
+  recency = pair-written seen_recency s.caches c _ (group_of k addr) _ (used-recency (s.caches c) (group_of k addr) w);
+  busy = put-of (seen_busy k) s.caches c _ _ refl;
   pending = refl;
   memory = refl;
   request = refl;
   command = refl;
   fill = refl;
-  response = pushed-to (as_response k) p.response c _ _ (said-ack k c addr o t);
+  response = pushed-to (as_response k) s.response c _ _ (said-ack k c addr o t);
   memout = refl;
   memin = refl;
   transaction = refl;
-  history = listed (completed_of k) p.history _ _ (said-done k c op (group_of k addr) o answer e);
-  taken = refl;
-  settled = refl;
+  history = listed (completed_of k) s.history _ _ (said-done k c op (group_of k addr) o answer e);
+  taken_count = refl;
+  settled_count = refl;
 })

@@ -19,16 +19,16 @@ use Rattle.bk_base.specs.States.{is_readable}
 use Rattle.bk_base.specs.declared.coh.Coh.TheVariants.{I}
 use Rattle.bk_dir.specs.declared.entry.Summary.{Summary}
 use Rattle.bk_dir.specs.Contents.{Contents, with_entry}
-use Rattle.bk_engine.specs.Changes.{wiped, wiped_at, invalidates}
+use Rattle.bk_engine.specs.Changes.{wiped_entry, wiped_ways, with_invalid_block}
 use Rattle.bk_engine.specs.Sends.{is_invalidated, inv_to, invs}
 use Rattle.bk_bridge.specs.Ranges.{IsInside}
 use Rattle.bk_engine.specs.declared.parts.Held.{Held}
-use Rattle.bk_engine.specs.Core.{EngineState}
-use Rattle.bk_system.specs.declared.event.Group.{Group}
+use Rattle.bk_engine.specs.Engine.{EngineState}
+use Rattle.bk_system.specs.declared.event.Origin.{Origin}
 use Rattle.bk_system.specs.State.{State}
 use Rattle.bk_system.specs.Events.{added_if, is_command, is_memout, commands_with, memout_with, with_outcome}
 use Rattle.bk_machine.specs.Tables.{put2}
-use Rattle.bk_machine.specs.Entries.{Entry, times, wiped_all}
+use Rattle.bk_machine.specs.Entries.{Entry, times, wiped_in_caches}
 use Rattle.bk_machine.specs.Entries as machine_entries
 use Rattle.bk_machine.specs.Messages.{ToCache, ToMemory, Inv}
 use Rattle.bk_machine.specs.Products.{as_command, as_to_memory}
@@ -43,29 +43,33 @@ use Rattle.bk_bridge.proofs.Channels.{pushed, pushed-to}
 
 -- a directory, and messages that are sent, over a state
 abbrev pub effect : Shape → State → Option (ℕ × Transaction) → Contents → List Row → World
-effect k n x d sent = record (world_of k n x) {
+effect k later x d sent = record (world_of k later x) {
   directory = λ s c w. listed_of (d.entries c s w);
   pending = d.pending;
-  command = λ c. filter_map (as_command k) (commands_with sent n.command c);
-  memout = filter_map (as_to_memory k) (memout_with sent n.memout);
+  command = λ c. filter_map (as_command k) (commands_with sent later.command c);
+  memout = filter_map (as_to_memory k) (memout_with sent later.memout);
 }
 
 -- an instruction that takes no head off
-pub outcome-effect : (k : Shape) (n : State) (x : Option (ℕ × Transaction)) (e : EngineState) (sent : List Row)
-    → world_of k (with_outcome k n (record { engine = e; sent = sent; popped = None })).state x ≡ effect k n x e.directory sent
-outcome-effect k n x e sent = ap (λ (gs : List Group). whole gs (n.settled ++ [])) (append-nil n.taken) ∙ ap (whole n.taken) (append-nil n.settled)
+pub outcome-effect : (k : Shape) (s : State) (x : Option (ℕ × Transaction)) (engine : EngineState) (sent : List Row)
+    → world_of k (with_outcome k s (record { engine = engine; sent = sent; popped = None })).state x
+    ≡ effect k s x engine.directory sent
+outcome-effect k s x engine sent =
+    ap (λ (gs : List Origin). whole gs (s.settled ++ [])) (append-nil s.taken) ∙ ap (whole s.taken) (append-nil s.settled)
   where
-    whole : List Group → List Group → World
-    whole taken settled = record (effect k n x e.directory sent) { taken = count_of taken; settled = count_of settled }
+    whole : List Origin → List Origin → World
+    whole taken settled = record (effect k s x engine.directory sent) { taken_count = count_of taken; settled_count = count_of settled }
 
 -- field by field
-pub effect-is : (k : Shape) (n : State) (x : Option (ℕ × Transaction)) (d : Contents) (sent : List Row)
+pub effect-is : (k : Shape) (later : State) (x : Option (ℕ × Transaction)) (d : Contents) (sent : List Row)
     (directory : ℕ → ℕ → ℕ → Entry) (command : ℕ → List (ℕ × ToCache)) (memout : List (ℕ × ToMemory))
-    → ◌≡◌ {A = ℕ → ℕ → ℕ → Entry} (λ s c w. listed_of (d.entries c s w)) directory → d.pending ≡ n.engine.directory.pending
-    → ◌≡◌ {A = ℕ → List (ℕ × ToCache)} (λ c. filter_map (as_command k) (commands_with sent n.command c)) command
-    → filter_map (as_to_memory k) (memout_with sent n.memout) ≡ memout
-    → effect k n x d sent ≡ record (world_of k n x) { directory = directory; command = command; memout = memout }
-effect-is k n x d sent directory command memout e p c m = λ j. record (world_of k n x) { directory = e j; pending = p j; command = c j; memout = m j }
+    → ◌≡◌ {A = ℕ → ℕ → ℕ → Entry} (λ s c w. listed_of (d.entries c s w)) directory
+    → d.pending ≡ later.engine.directory.pending
+    → ◌≡◌ {A = ℕ → List (ℕ × ToCache)} (λ c. filter_map (as_command k) (commands_with sent later.command c)) command
+    → filter_map (as_to_memory k) (memout_with sent later.memout) ≡ memout
+    → effect k later x d sent ≡ record (world_of k later x) { directory = directory; command = command; memout = memout }
+effect-is k later x d sent directory command memout e p c m =
+    λ j. record (world_of k later x) { directory = e j; pending = p j; command = c j; memout = m j }
 
 -- MESSAGES
 
@@ -73,59 +77,71 @@ one-command : (ms : List Row) (m : Row) (channel : ℕ → List Row) → network
     → commands_with (m ∷ ms) channel ≡ commands_with ms (put channel (receiver_of m) (channel (receiver_of m) ++ m ∷ []))
 one-command ms m channel e = ap (λ (n : Network). commands_with ms (added_if (is_command n) (receiver_of m) m channel)) e
 
-command-sent : (k : Shape) (m : Row) (y : ℕ × ToCache) (channel : ℕ → List Row) → network_of m ≡ networks.Command → as_command k m ≡ Some y
+command-sent : (k : Shape) (m : Row) (y : ℕ × ToCache) (channel : ℕ → List Row) → network_of m ≡ networks.Command
+    → as_command k m ≡ Some y
     → ◌≡◌ {A = ℕ → List (ℕ × ToCache)} (λ i. filter_map (as_command k) (commands_with (m ∷ []) channel i))
     (put (λ i. filter_map (as_command k) (channel i)) (receiver_of m) (filter_map (as_command k) (channel (receiver_of m)) ++ y ∷ []))
 command-sent k m y channel e f =
     ap (λ (h : ℕ → List Row). λ i. filter_map (as_command k) (h i)) (one-command [] m channel e)
     ∙ pushed-to (as_command k) channel (receiver_of m) m y f
 
-memout-sent : (k : Shape) (m : Row) (y : ℕ × ToMemory) (channel : List Row) → network_of m ≡ networks.Memout → as_to_memory k m ≡ Some y
+memout-sent : (k : Shape) (m : Row) (y : ℕ × ToMemory) (channel : List Row) → network_of m ≡ networks.Memout
+    → as_to_memory k m ≡ Some y
     → filter_map (as_to_memory k) (memout_with (m ∷ []) channel) ≡ filter_map (as_to_memory k) channel ++ y ∷ []
 memout-sent k m y channel e f =
-    ap (λ (n : Network). filter_map (as_to_memory k) (cond (is_memout n) (channel ++ m ∷ []) channel)) e ∙ pushed (as_to_memory k) channel m y f
+    ap (λ (n : Network). filter_map (as_to_memory k) (cond (is_memout n) (channel ++ m ∷ []) channel)) e
+    ∙ pushed (as_to_memory k) channel m y f
 
 command-no_memout : (m : Row) (channel : List Row) → network_of m ≡ networks.Command → memout_with (m ∷ []) channel ≡ channel
 command-no_memout m channel e = ap (λ (n : Network). cond (is_memout n) (channel ++ m ∷ []) channel) e
 
-memout-no_command : (m : Row) (channel : ℕ → List Row) → network_of m ≡ networks.Memout → commands_with (m ∷ []) channel ≡ channel
+memout-no_command : (m : Row) (channel : ℕ → List Row) → network_of m ≡ networks.Memout
+    → commands_with (m ∷ []) channel ≡ channel
 memout-no_command m channel e = ap (λ (n : Network). added_if (is_command n) (receiver_of m) m channel) e
 
 -- a command, with a directory that has changed in its entries alone
-pub command-effect : (k : Shape) (n : State) (x : Option (ℕ × Transaction)) (d : Contents) (directory : ℕ → ℕ → ℕ → Entry) (m : Row) (y : ℕ × ToCache)
-    → ◌≡◌ {A = ℕ → ℕ → ℕ → Entry} (λ s c w. listed_of (d.entries c s w)) directory → d.pending ≡ n.engine.directory.pending
+pub command-effect : (k : Shape) (later : State) (x : Option (ℕ × Transaction)) (d : Contents) (directory : ℕ → ℕ → ℕ
+    → Entry) (m : Row) (y : ℕ × ToCache)
+    → ◌≡◌ {A = ℕ → ℕ → ℕ → Entry} (λ s c w. listed_of (d.entries c s w)) directory
+    → d.pending ≡ later.engine.directory.pending
     → network_of m ≡ networks.Command → as_command k m ≡ Some y
-    → effect k n x d (m ∷ [])
-    ≡ record (world_of k n x) { directory = directory; command = put (world_of k n x).command (receiver_of m) ((world_of k n x).command (receiver_of m) ++ y ∷ []) }
-command-effect k n x d directory m y e p i f =
-    effect-is k n x d (m ∷ []) directory _ _ e p (command-sent k m y n.command i f) (ap (filter_map (as_to_memory k)) (command-no_memout m n.memout i))
+    → effect k later x d (m ∷ [])
+    ≡ record (world_of k later x) {
+      directory = directory;
+      command = put (world_of k later x).command (receiver_of m) ((world_of k later x).command (receiver_of m) ++ y ∷ []);
+    }
+command-effect k later x d directory m y e p i f =
+    effect-is k later x d (m ∷ []) directory _ _ e p (command-sent k m y later.command i f)
+    (ap (filter_map (as_to_memory k)) (command-no_memout m later.memout i))
 
-pub memory-effect : (k : Shape) (n : State) (x : Option (ℕ × Transaction)) (m : Row) (y : ℕ × ToMemory)
+pub memory-effect : (k : Shape) (s : State) (x : Option (ℕ × Transaction)) (m : Row) (y : ℕ × ToMemory)
     → network_of m ≡ networks.Memout → as_to_memory k m ≡ Some y
-    → effect k n x n.engine.directory (m ∷ []) ≡ record (world_of k n x) { memout = (world_of k n x).memout ++ y ∷ [] }
-memory-effect k n x m y i f =
-    effect-is k n x n.engine.directory (m ∷ []) _ _ _ refl refl
-    (ap (λ (h : ℕ → List Row). λ c. filter_map (as_command k) (h c)) (memout-no_command m n.command i)) (memout-sent k m y n.memout i f)
+    → effect k s x s.engine.directory (m ∷ []) ≡ record (world_of k s x) { memout = (world_of k s x).memout ++ y ∷ [] }
+memory-effect k s x m y i f =
+    effect-is k s x s.engine.directory (m ∷ []) _ _ _ refl refl
+    (ap (λ (h : ℕ → List Row). λ c. filter_map (as_command k) (h c)) (memout-no_command m s.command i))
+    (memout-sent k m y s.memout i f)
 
 -- ENTRIES
 
-pub entry-seen : (d : Contents) (c s v : ℕ) (entry : DirectoryEntry)
-    → seen (with_entry d c s v entry) ≡ put (seen d) s (put2 (seen d s) c v (listed_of entry))
+pub entry-seen : (d : Contents) (c g w : ℕ) (entry : DirectoryEntry)
+    → seen (with_entry d c g w entry) ≡ put (seen d) g (put2 (seen d g) c w (listed_of entry))
 unfolding put put2
 entry-seen d c s v entry = fun_ext (λ g. fun_ext (λ i. fun_ext (λ w. at g i w)))
   where
     at : (g i w : ℕ) → seen (with_entry d c s v entry) g i w ≡ put (seen d) s (put2 (seen d s) c v (listed_of entry)) g i w
     at g i w = grind (arith, nat_tests)
 
-pub entry-effect : (k : Shape) (n : State) (x : Option (ℕ × Transaction)) (c s v : ℕ) (entry : DirectoryEntry)
-    → effect k n x (with_entry n.engine.directory c s v entry) []
-    ≡ record (world_of k n x) { directory = put (world_of k n x).directory s (put2 ((world_of k n x).directory s) c v (listed_of entry)) }
-entry-effect k n x c s v entry =
-    effect-is k n x (with_entry n.engine.directory c s v entry) [] _ _ _ (entry-seen n.engine.directory c s v entry) refl refl refl
+pub entry-effect : (k : Shape) (s : State) (x : Option (ℕ × Transaction)) (c g w : ℕ) (entry : DirectoryEntry)
+    → effect k s x (with_entry s.engine.directory c g w entry) []
+    ≡ record (world_of k s x) { directory = put (world_of k s x).directory g (put2 ((world_of k s x).directory g) c w (listed_of entry)) }
+entry-effect k s x c g w entry =
+    effect-is k s x (with_entry s.engine.directory c g w entry) [] _ _ _ (entry-seen s.engine.directory c g w entry) refl refl refl
 
 -- INVALIDATIONS
 
-commands-both : (ms ns : List Row) (channel : ℕ → List Row) → commands_with (ms ++ ns) channel ≡ commands_with ns (commands_with ms channel)
+commands-both : (ms ns : List Row) (channel : ℕ → List Row) → commands_with (ms ++ ns) channel
+    ≡ commands_with ns (commands_with ms channel)
 commands-both [] ns channel = refl
 commands-both (m ∷ ms) ns channel = commands-both ms ns (added_if (is_command (network_of m)) (receiver_of m) m channel)
 
@@ -137,7 +153,8 @@ memout-both (m ∷ ms) ns channel = memout-both ms ns (cond (is_memout (network_
 abbrev inv_added : Shape → Held → Bool → List (ℕ × ToCache) → List (ℕ × ToCache)
 inv_added k held b ms = cond b (ms ++ (group_of k held.addr, Inv (tag_at k held.addr)) ∷ []) ms
 
-added-at : (C : ℕ → List (ℕ × ToCache)) (ys : List (ℕ × ToCache)) (n i : ℕ) → put C n (C n ++ ys) i ≡ cond (eqb i n && true) (C i ++ ys) (C i)
+added-at : (C : ℕ → List (ℕ × ToCache)) (ys : List (ℕ × ToCache)) (n i : ℕ)
+    → put C n (C n ++ ys) i ≡ cond (eqb i n && true) (C i ++ ys) (C i)
 unfolding put
 added-at C ys n i = grind (arith, nat_tests)
 
@@ -163,7 +180,8 @@ inv-one k held n true channel i =
 inv-one k held n false channel i = nothing (eqb i n) (filter_map (as_command k) (channel i)) _
 
 inv-last : (n i : ℕ) (b : Bool) (ms ys : List (ℕ × ToCache))
-    → cond (eqb i n && b) (cond (ltb i n && b) (ms ++ ys) ms ++ ys) (cond (ltb i n && b) (ms ++ ys) ms) ≡ cond (ltb i (suc n) && b) (ms ++ ys) ms
+    → cond (eqb i n && b) (cond (ltb i n && b) (ms ++ ys) ms ++ ys) (cond (ltb i n && b) (ms ++ ys) ms)
+    ≡ cond (ltb i (suc n) && b) (ms ++ ys) ms
 inv-last n i b ms ys = grind (arith, nat_tests)
 
 invs-below : (k : Shape) (held : Held) (with_owner : Bool) (sum : Summary) (n : ℕ) (channel : ℕ → List Row) (i : ℕ)
@@ -185,7 +203,8 @@ invs-below k held with_owner sum (suc n) channel i =
 -- an Inv to each cache of a list, which are those of the configuration that it is to go to
 pub invs-sent : (k : Shape) (held : Held) (with_owner : Bool) (sum : Summary) (to : List ℕ) (channel : ℕ → List Row)
     → ((c : ℕ) → (ltb c k.caches && is_invalidated with_owner sum c) ≡ eqb (times c to) 1)
-    → ◌≡◌ {A = ℕ → List (ℕ × ToCache)} (λ i. filter_map (as_command k) (commands_with (invs k held with_owner sum) channel i))
+    → ◌≡◌ {A = ℕ → List (ℕ × ToCache)}
+    (λ i. filter_map (as_command k) (commands_with (invs k held with_owner sum) channel i))
     (λ i. cond (eqb (times i to) 1) (filter_map (as_command k) (channel i) ++ (group_of k held.addr, Inv (tag_at k held.addr)) ∷ [])
     (filter_map (as_command k) (channel i)))
 invs-sent k held with_owner sum to channel e =
@@ -207,21 +226,24 @@ invs-no_memout held with_owner sum (suc n) channel =
 
 -- the entries: those beyond the configuration are I, and stay so
 abbrev Unread : DirectoryEntry → Type 0
-Unread e = is_readable e.state ≡ false
+Unread entry = is_readable entry.state ≡ false
 
-wiped-seen : (t : ℕ) (e : DirectoryEntry) → listed_of (wiped t e) ≡ machine_entries.wiped t (listed_of e)
-wiped-seen t e = go (is_readable e.state && eqb e.tag t)
+wiped-seen : (t : ℕ) (entry : DirectoryEntry) → listed_of (wiped_entry t entry) ≡ machine_entries.wiped_entry t (listed_of entry)
+wiped-seen t entry = go (is_readable entry.state && eqb entry.tag t)
   where
-    go : (b : Bool) → listed_of (if b then record e { state = I } else e) ≡ cond b (record { tag = e.tag; state = I }) (listed_of e)
+    go : (b : Bool) → listed_of (if b then record entry { state = I } else entry)
+        ≡ cond b (record { tag = entry.tag; state = I }) (listed_of entry)
     go true = refl
     go false = refl
 
-unread-stays : (t : ℕ) (e : DirectoryEntry) → Unread e → listed_of e ≡ machine_entries.wiped t (listed_of e)
-unread-stays t e u = sym (ap (λ (b : Bool). cond (b && eqb e.tag t) (record { tag = e.tag; state = I }) (listed_of e)) u)
+unread-stays : (t : ℕ) (entry : DirectoryEntry) → Unread entry → listed_of entry ≡ machine_entries.wiped_entry t (listed_of entry)
+unread-stays t entry u = sym (ap (λ (b : Bool). cond (b && eqb entry.tag t) (record { tag = entry.tag; state = I }) (listed_of entry)) u)
 
-wiped_at-seen : (k : Shape) (t w : ℕ) (row : ℕ → DirectoryEntry) → (nat_lt w k.ways ≡ false → Unread (row w)) → listed_of (wiped_at k t row w) ≡ machine_entries.wiped t (listed_of (row w))
+wiped_at-seen : (k : Shape) (t w : ℕ) (row : ℕ → DirectoryEntry) → (nat_lt w k.ways ≡ false → Unread (row w))
+    → listed_of (wiped_ways k t row w) ≡ machine_entries.wiped_entry t (listed_of (row w))
 wiped_at-seen k t w row u =
-    cond_both (nat_lt w k.ways) (wiped t (row w)) (row w) (λ (e : DirectoryEntry). listed_of e ≡ machine_entries.wiped t (listed_of (row w)))
+    cond_both (nat_lt w k.ways) (wiped_entry t (row w)) (row w) (λ (entry : DirectoryEntry). listed_of entry
+    ≡ machine_entries.wiped_entry t (listed_of (row w)))
     (λ i. wiped-seen t (row w)) (λ i. unread-stays t (row w) (u i))
 
 unread : (b : Bool) → (b ≡ true → ⊥) → b ≡ false
@@ -232,50 +254,63 @@ beyond : (a b : ℕ) → nat_lt a b ≡ false → a < b → ⊥
 beyond a b e l = grind (arith, nat_tests)
 
 -- the row of a cache: wiped where an Inv is sent to it
-row-seen : (k : Shape) (d : Contents) (c s t w : ℕ) (b : Bool) → IsInside k d
-    → listed_of (cond {A = ℕ → DirectoryEntry} b (wiped_at k t (d.entries c s)) (d.entries c s) w)
-    ≡ cond b (machine_entries.wiped t (listed_of (d.entries c s w))) (listed_of (d.entries c s w))
-row-seen k d c s t w true inside = wiped_at-seen k t w (d.entries c s) (λ e. unread (is_readable (d.entries c s w).state) (λ r. beyond w k.ways e (inside c s w r).way))
-row-seen k d c s t w false inside = refl
+row-seen : (k : Shape) (d : Contents) (c g t w : ℕ) (b : Bool) → IsInside k d
+    → listed_of (cond {A = ℕ → DirectoryEntry} b (wiped_ways k t (d.entries c g)) (d.entries c g) w)
+    ≡ cond b (machine_entries.wiped_entry t (listed_of (d.entries c g w))) (listed_of (d.entries c g w))
+row-seen k d c g t w true inside =
+    wiped_at-seen k t w (d.entries c g) (λ e. unread (is_readable (d.entries c g w).state) (λ r. beyond w k.ways e (inside c g w r).way))
+row-seen k d c g t w false inside = refl
 
 -- a cache beyond the configuration has no entry to wipe
-row-beyond : (k : Shape) (d : Contents) (c s t w : ℕ) (b : Bool) → IsInside k d → k.caches ≤ c
-    → listed_of (d.entries c s w) ≡ cond b (machine_entries.wiped t (listed_of (d.entries c s w))) (listed_of (d.entries c s w))
-row-beyond k d c s t w true inside l = unread-stays t (d.entries c s w) (unread (is_readable (d.entries c s w).state) (λ r. let below : c < k.caches = (inside c s w r).cache in omega arith))
-row-beyond k d c s t w false inside l = refl
+row-beyond : (k : Shape) (d : Contents) (c g t w : ℕ) (b : Bool) → IsInside k d → k.caches ≤ c
+    → listed_of (d.entries c g w) ≡ cond b (machine_entries.wiped_entry t (listed_of (d.entries c g w))) (listed_of (d.entries c g w))
+row-beyond k d c g t w true inside l = unread-stays t (d.entries c g w)
+    (unread (is_readable (d.entries c g w).state) (λ r. let below : c < k.caches = (inside c g w r).cache in omega arith))
+row-beyond k d c g t w false inside l = refl
 
+-- The caches that are sent an Inv are those that stand in the list once. Their entries of the block become I, and all others stay.
 pub wipes-seen : (k : Shape) (d : Contents) (held : Held) (with_owner : Bool) (sum : Summary) (to : List ℕ) → IsInside k d
     → ((c : ℕ) → c < k.caches → is_invalidated with_owner sum c ≡ eqb (times c to) 1)
-    → seen (invalidates k d held with_owner sum)
-    ≡ put (seen d) (group_of k held.addr) (wiped_all to (tag_at k held.addr) (seen d (group_of k held.addr)))
+    → seen (with_invalid_block k d held with_owner sum)
+    ≡ put (seen d) (group_of k held.addr) (wiped_in_caches to (tag_at k held.addr) (seen d (group_of k held.addr)))
 unfolding put
 wipes-seen k d held with_owner sum to inside e = fun_ext (λ g. fun_ext (λ c. fun_ext (λ w. at g c w)))
   where
-    s : ℕ
-    s = group_of k held.addr
+    group : ℕ
+    group = group_of k held.addr
 
     t : ℕ
     t = tag_at k held.addr
 
     -- one entry of the group
-    mine : (c w : ℕ) → listed_of (cond {A = ℕ → DirectoryEntry} (is_invalidated with_owner sum c) (wiped_at k t (d.entries c s)) (d.entries c s) w) ≡ wiped_all to t (seen d s) c w
+    mine : (c w : ℕ) → listed_of
+        (cond {A = ℕ → DirectoryEntry} (is_invalidated with_owner sum c) (wiped_ways k t (d.entries c group)) (d.entries c group) w)
+        ≡ wiped_in_caches to t (seen d group) c w
     mine c w = elim (cases_lt c k.caches) [
-      | inl l ↦ row-seen k d c s t w (is_invalidated with_owner sum c) inside
-          ∙ ap (λ (b : Bool). cond b (machine_entries.wiped t (listed_of (d.entries c s w))) (listed_of (d.entries c s w))) (e c l)
-      | inr l ↦ row-seen k d c s t w (is_invalidated with_owner sum c) inside
-          ∙ sym (row-beyond k d c s t w (is_invalidated with_owner sum c) inside l)
-          ∙ row-beyond k d c s t w (eqb (times c to) 1) inside l
+      | inl l ↦ row-seen k d c group t w (is_invalidated with_owner sum c) inside
+          ∙ ap (λ (b : Bool). cond b (machine_entries.wiped_entry t (listed_of (d.entries c group w)))
+          (listed_of (d.entries c group w))) (e c l)
+      | inr l ↦ row-seen k d c group t w (is_invalidated with_owner sum c) inside
+          ∙ sym (row-beyond k d c group t w (is_invalidated with_owner sum c) inside l)
+          ∙ row-beyond k d c group t w (eqb (times c to) 1) inside l
     ]
 
-    split : (b x : Bool) (c g w : ℕ) → listed_of (cond {A = ℕ → ℕ → DirectoryEntry} b (λ j. cond (eqb j s) (wiped_at k t (d.entries c s)) (d.entries c j)) (d.entries c) g w)
-        ≡ cond (eqb g s) (listed_of (cond {A = ℕ → DirectoryEntry} b (wiped_at k t (d.entries c s)) (d.entries c s) w)) (listed_of (d.entries c g w))
-    split true x c g w = grind (arith, nat_tests)
-    split false x c g w = grind (arith, nat_tests)
+    split : (b test : Bool) (c g w : ℕ)
+        → listed_of (cond {A = ℕ → ℕ
+        → DirectoryEntry} b (λ j. cond (eqb j group) (wiped_ways k t (d.entries c group)) (d.entries c j))
+        (d.entries c) g w)
+        ≡ cond (eqb g group) (listed_of (cond {A = ℕ → DirectoryEntry} b (wiped_ways k t (d.entries c group)) (d.entries c group) w))
+        (listed_of (d.entries c g w))
+    split true test c g w = grind (arith, nat_tests)
+    split false test c g w = grind (arith, nat_tests)
 
-    at : (g c w : ℕ) → seen (invalidates k d held with_owner sum) g c w ≡ put (seen d) s (wiped_all to t (seen d s)) g c w
-    at g c w = split (is_invalidated with_owner sum c) true c g w ∙ side (eqb g s)
+    at : (g c w : ℕ) → seen (with_invalid_block k d held with_owner sum) g c w
+        ≡ put (seen d) group (wiped_in_caches to t (seen d group)) g c w
+    at g c w = split (is_invalidated with_owner sum c) true c g w ∙ side (eqb g group)
       where
-        side : (b : Bool) → cond b (listed_of (cond {A = ℕ → DirectoryEntry} (is_invalidated with_owner sum c) (wiped_at k t (d.entries c s)) (d.entries c s) w)) (listed_of (d.entries c g w))
-            ≡ cond b (wiped_all to t (seen d s)) (seen d g) c w
+        side : (b : Bool) → cond b
+            (listed_of (cond {A = ℕ → DirectoryEntry} (is_invalidated with_owner sum c) (wiped_ways k t (d.entries c group))
+            (d.entries c group) w)) (listed_of (d.entries c g w))
+            ≡ cond b (wiped_in_caches to t (seen d group)) (seen d g) c w
         side true = mine c w
         side false = refl

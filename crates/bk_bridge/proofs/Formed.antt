@@ -15,15 +15,17 @@ pub cond-all : {X : Type 0} (P : X → Type 0) (b : Bool) (x y : X) → P x → 
 cond-all P true x y p q = p
 cond-all P false x y p q = q
 
-pub put-all : {X : Type 0} (P : X → Type 0) (m : ℕ → X) (c : ℕ) (v : X) → ((i : ℕ) → P (m i)) → P v → (i : ℕ) → P (put m c v i)
+pub put-all : {X : Type 0} (P : X → Type 0) (m : ℕ → X) (c : ℕ) (v : X) → ((i : ℕ) → P (m i)) → P v → (i : ℕ)
+    → P (put m c v i)
 unfolding put
 put-all P m c v h p i = cond-all P (eqb i c) v (m i) p (h i)
 
 same-number : (j c : ℕ) → eqb j c ≡ true → j ≡ c
 same-number j c e = grind (arith, nat_tests)
 
--- the same of what hangs on the number too
-pub put-each : {X : Type 0} (P : ℕ → X → Type 0) (m : ℕ → X) (c : ℕ) (v : X) → ((i : ℕ) → P i (m i)) → P c v → (i : ℕ) → P i (put m c v i)
+-- the same of what depends on the number too
+pub put-each : {X : Type 0} (P : ℕ → X → Type 0) (m : ℕ → X) (c : ℕ) (v : X) → ((i : ℕ) → P i (m i)) → P c v
+    → (i : ℕ) → P i (put m c v i)
 unfolding put
 put-each P m c v h p i = cond_both (eqb i c) v (m i) (P i) (λ e. subst (λ j. P j v) (sym (same-number i c e)) p) (λ e. h i)
 
@@ -40,7 +42,8 @@ without_head network [] h = tt
 without_head network (m ∷ ms) h = h.1
 
 -- a message that is sent goes where its network is
-pub requests-formed : (c : ℕ) (o : Option Row) (channel : ℕ → List Row) → IfSome o IsWhole → ((i : ℕ) → AreOf networks.Request (channel i))
+pub requests-formed : (c : ℕ) (o : Option Row) (channel : ℕ → List Row) → IfSome o IsWhole
+    → ((i : ℕ) → AreOf networks.Request (channel i))
     → (i : ℕ) → AreOf networks.Request (requests_with c o channel i)
 requests-formed c None channel h f i = f i
 requests-formed c (Some m) channel h f i = go (network_of m) refl
@@ -51,7 +54,8 @@ requests-formed c (Some m) channel h f i = go (network_of m) refl
         (push networks.Request (channel c) m (f c) (record { is = e; whole = h })) i
     go n e = f i
 
-pub responses-formed : (c : ℕ) (o : Option Row) (channel : ℕ → List Row) → IfSome o IsWhole → ((i : ℕ) → AreOf networks.Response (channel i))
+pub responses-formed : (c : ℕ) (o : Option Row) (channel : ℕ → List Row) → IfSome o IsWhole
+    → ((i : ℕ) → AreOf networks.Response (channel i))
     → (i : ℕ) → AreOf networks.Response (responses_with c o channel i)
 responses-formed c None channel h f i = f i
 responses-formed c (Some m) channel h f i = go (network_of m) refl
@@ -62,7 +66,8 @@ responses-formed c (Some m) channel h f i = go (network_of m) refl
         (push networks.Response (channel c) m (f c) (record { is = e; whole = h })) i
     go n e = f i
 
-pub fills-formed : (c : ℕ) (o : Option Row) (channel : ℕ → ℕ → List Row) → IfSome o IsWhole → ((i j : ℕ) → AreOf networks.Fill (channel i j))
+pub fills-formed : (c : ℕ) (o : Option Row) (channel : ℕ → ℕ → List Row) → IfSome o IsWhole
+    → ((i j : ℕ) → AreOf networks.Fill (channel i j))
     → (i j : ℕ) → AreOf networks.Fill (fills_with c o channel i j)
 fills-formed c None channel h f i j = f i j
 fills-formed c (Some m) channel h f i j = go (network_of m) refl
@@ -79,10 +84,10 @@ fills-formed c (Some m) channel h f i j = go (network_of m) refl
 
 -- each line has eight words
 abbrev pub HaveEight : (ℕ → ℕ → Line) → Type 0
-HaveEight lines = (s w : ℕ) → length (lines s w).words ≡ 8
+HaveEight lines = (g w : ℕ) → length (lines g w).words ≡ 8
 
-pub line-formed : (lines : ℕ → ℕ → Line) (s v : ℕ) (line : Line) → HaveEight lines → length line.words ≡ 8
-    → HaveEight (put lines s (put (lines s) v line))
-line-formed lines s v line h e =
-    put-all (λ (row : ℕ → Line). (w : ℕ) → length (row w).words ≡ 8) lines s _ h
-    (put-all (λ (l : Line). length l.words ≡ 8) (lines s) v line (h s) e)
+pub line-formed : (lines : ℕ → ℕ → Line) (g v : ℕ) (line : Line) → HaveEight lines → length line.words ≡ 8
+    → HaveEight (put lines g (put (lines g) v line))
+line-formed lines g v line h e =
+    put-all (λ (row : ℕ → Line). (w : ℕ) → length (row w).words ≡ 8) lines g _ h
+    (put-all (λ (l : Line). length l.words ≡ 8) (lines g) v line (h g) e)

@@ -26,42 +26,44 @@ use Rattle.bk_bridge.proofs.Sent.{request-to, request-no_response, request-no_fi
 use Rattle.bk_bridge.proofs.Same.{world}
 
 -- the operation is in progress, and its request is sent
-pub asks_row : (k : Shape) (n : State) (x : Option (ℕ × Transaction)) (c : ℕ) (op : Operation) (way : ℕ) (m : Row) → network_of m ≡ networks.Request
+pub asks_row : (k : Shape) (s : State) (x : Option (ℕ × Transaction)) (c : ℕ) (op : Operation) (way : ℕ) (m : Row)
+    → network_of m ≡ networks.Request
     → as_request k m ≡ Some ((op_of k op).0, request_of (op_of k op).1 way)
-    → world_of k (with_taken n c (table.asks (n.caches c) op way m)).state x ≡ step_after (op_of k op).0 (Asks c way (op_of k op).1)
-    (world_of k n x)
-asks_row k n x c op way m e f = world (record {
-  held = table-kept seen_entries n.caches c _ (λ g w. refl);
-  words = table-kept seen_words n.caches c _ (λ g w. refl);
+    → world_of k (with_taken s c (table.request_row (s.caches c) op way m)).state x
+    ≡ step_after (op_of k op).0 (Asks c way (op_of k op).1)
+    (world_of k s x)
+asks_row k s x c op way m e f = world (record {
+  entries = table-kept seen_entries s.caches c _ (λ g w. refl);
+  words = table-kept seen_words s.caches c _ (λ g w. refl);
   directory = refl;
-  recency = pair-kept seen_recency n.caches c _ refl;
-  busy = put-of (seen_busy k) n.caches c _ _ refl;
+  recency = pair-kept seen_recency s.caches c _ refl;
+  busy = put-of (seen_busy k) s.caches c _ _ refl;
   pending = refl;
   memory = refl;
-  request = ap (λ (h : ℕ → List Row). λ i. filter_map (as_request k) (h i)) (request-to c m n.request e)
-      ∙ pushed-to (as_request k) n.request c m _ f;
+  request = ap (λ (h : ℕ → List Row). λ i. filter_map (as_request k) (h i)) (request-to c m s.request e)
+      ∙ pushed-to (as_request k) s.request c m _ f;
   command = refl;
-  fill = ap (λ (h : ℕ → ℕ → List Row). λ to from. filter_map (as_fill k) (h to from)) (request-no_fill c m n.fill e);
-  response = ap (λ (h : ℕ → List Row). λ i. filter_map (as_response k) (h i)) (request-no_response c m n.response e);
+  fill = ap (λ (h : ℕ → ℕ → List Row). λ to from. filter_map (as_fill k) (h to from)) (request-no_fill c m s.fill e);
+  response = ap (λ (h : ℕ → List Row). λ i. filter_map (as_response k) (h i)) (request-no_response c m s.response e);
   memout = refl;
   memin = refl;
   transaction = refl;
-  history = unlisted (completed_of k) n.history;
-  taken = refl;
-  settled = refl;
+  history = unlisted (completed_of k) s.history;
+  taken_count = refl;
+  settled_count = refl;
 })
 
 -- a Load of a copy: its way is the most recently used, and the answer is the copy's word
-pub load_hits_row : (k : Shape) (n : State) (x : Option (ℕ × Transaction)) (c addr v : ℕ)
-    → world_of k (with_taken n c (table.hits (used (n.caches c) (group_of k addr) v) c (ops.Load addr)
-    (slice_index (line_at k (n.caches c) addr v).words (word_of addr)) v)).state x
-    ≡ step_after (group_of k addr) (LoadHits c (tag_at k addr) v (word_of addr)) (world_of k n x)
-load_hits_row k n x c addr v = world (record {
-  held = table-kept seen_entries n.caches c _ (λ g w. refl);
-  words = table-kept seen_words n.caches c _ (λ g w. refl);
+pub load_hits_row : (k : Shape) (s : State) (x : Option (ℕ × Transaction)) (c addr v : ℕ)
+    → world_of k (with_taken s c (table.hit_row (used (s.caches c) (group_of k addr) v) c (ops.Load addr)
+    (slice_index (line_at k (s.caches c) addr v).words (word_of addr)) v)).state x
+    ≡ step_after (group_of k addr) (LoadHits c (tag_at k addr) v (word_of addr)) (world_of k s x)
+load_hits_row k s x c addr v = world (record {
+  entries = table-kept seen_entries s.caches c _ (λ g w. refl);
+  words = table-kept seen_words s.caches c _ (λ g w. refl);
   directory = refl;
-  recency = pair-written seen_recency n.caches c _ (group_of k addr) _ (used-recency (n.caches c) (group_of k addr) v);
-  busy = put-same (seen_busy k) n.caches c _ refl;
+  recency = pair-written seen_recency s.caches c _ (group_of k addr) _ (used-recency (s.caches c) (group_of k addr) v);
+  busy = put-same (seen_busy k) s.caches c _ refl;
   pending = refl;
   memory = refl;
   request = refl;
@@ -71,26 +73,26 @@ load_hits_row k n x c addr v = world (record {
   memout = refl;
   memin = refl;
   transaction = refl;
-  history = listed (completed_of k) n.history _ _ refl;
-  taken = refl;
-  settled = refl;
+  history = listed (completed_of k) s.history _ _ refl;
+  taken_count = refl;
+  settled_count = refl;
 })
 
 -- a Store into a copy in E or M: its word is written, and it is in M
-pub store_hits_row : (k : Shape) (n : State) (x : Option (ℕ × Transaction)) (c addr value v : ℕ)
-    → length ((n.caches c).lines (group_of k addr) v).words ≡ 8
-    → world_of k (with_taken n c (table.store_hit k (n.caches c) c addr value v)).state x
-    ≡ step_after (group_of k addr) (StoreHits c (tag_at k addr) v (word_of addr) value) (world_of k n x)
-store_hits_row k n x c addr value v e = world (record {
-  held = table-written seen_entries n.caches c _ (group_of k addr) v _ (line-of entry_of (n.caches c).lines (group_of k addr) v _);
-  words = table-written seen_words n.caches c _ (group_of k addr) v _ (λ g w.
-      line-of (λ (l : Line). words_of l.words) (n.caches c).lines (group_of k addr) v _ g w
-      ∙ ap (λ (ws : ℕ → ℕ). put {X = ℕ → ℕ → ℕ} (λ g w. words_of ((n.caches c).lines g w).words) (group_of k addr)
-      (put {X = ℕ → ℕ} (λ w. words_of ((n.caches c).lines (group_of k addr) w).words) v ws) g w)
+pub store_hits_row : (k : Shape) (s : State) (x : Option (ℕ × Transaction)) (c addr value v : ℕ)
+    → length ((s.caches c).lines (group_of k addr) v).words ≡ 8
+    → world_of k (with_taken s c (table.store_hit k (s.caches c) c addr value v)).state x
+    ≡ step_after (group_of k addr) (StoreHits c (tag_at k addr) v (word_of addr) value) (world_of k s x)
+store_hits_row k s x c addr value v e = world (record {
+  entries = table-written seen_entries s.caches c _ (group_of k addr) v _ (line-of entry_of (s.caches c).lines (group_of k addr) v _);
+  words = table-written seen_words s.caches c _ (group_of k addr) v _ (λ g w.
+      line-of (λ (l : Line). words_of l.words) (s.caches c).lines (group_of k addr) v _ g w
+      ∙ ap (λ (ws : ℕ → ℕ). put {X = ℕ → ℕ → ℕ} (λ g w. words_of ((s.caches c).lines g w).words) (group_of k addr)
+      (put {X = ℕ → ℕ} (λ w. words_of ((s.caches c).lines (group_of k addr) w).words) v ws) g w)
       (word_set _ (word_of addr) value e (word-below addr)));
   directory = refl;
-  recency = pair-written seen_recency n.caches c _ (group_of k addr) _ (used-recency (n.caches c) (group_of k addr) v);
-  busy = put-same (seen_busy k) n.caches c _ refl;
+  recency = pair-written seen_recency s.caches c _ (group_of k addr) _ (used-recency (s.caches c) (group_of k addr) v);
+  busy = put-same (seen_busy k) s.caches c _ refl;
   pending = refl;
   memory = refl;
   request = refl;
@@ -100,21 +102,21 @@ store_hits_row k n x c addr value v e = world (record {
   memout = refl;
   memin = refl;
   transaction = refl;
-  history = listed (completed_of k) n.history _ _ refl;
-  taken = refl;
-  settled = refl;
+  history = listed (completed_of k) s.history _ _ refl;
+  taken_count = refl;
+  settled_count = refl;
 })
 
 -- an Evict of a block that isn't there is done at once
-pub evict_idles_row : (k : Shape) (n : State) (x : Option (ℕ × Transaction)) (c addr : ℕ)
-    → world_of k (with_taken n c (table.hits (n.caches c) c (ops.Evict addr) 0 0)).state x ≡ step_after (group_of k addr)
-    (EvictIdles c (tag_at k addr)) (world_of k n x)
-evict_idles_row k n x c addr = world (record {
-  held = table-kept seen_entries n.caches c _ (λ g w. refl);
-  words = table-kept seen_words n.caches c _ (λ g w. refl);
+pub evict_idles_row : (k : Shape) (s : State) (x : Option (ℕ × Transaction)) (c addr : ℕ)
+    → world_of k (with_taken s c (table.hit_row (s.caches c) c (ops.Evict addr) 0 0)).state x ≡ step_after (group_of k addr)
+    (EvictIdles c (tag_at k addr)) (world_of k s x)
+evict_idles_row k s x c addr = world (record {
+  entries = table-kept seen_entries s.caches c _ (λ g w. refl);
+  words = table-kept seen_words s.caches c _ (λ g w. refl);
   directory = refl;
-  recency = pair-kept seen_recency n.caches c _ refl;
-  busy = put-same (seen_busy k) n.caches c _ refl;
+  recency = pair-kept seen_recency s.caches c _ refl;
+  busy = put-same (seen_busy k) s.caches c _ refl;
   pending = refl;
   memory = refl;
   request = refl;
@@ -124,7 +126,7 @@ evict_idles_row k n x c addr = world (record {
   memout = refl;
   memin = refl;
   transaction = refl;
-  history = listed (completed_of k) n.history _ _ refl;
-  taken = refl;
-  settled = refl;
+  history = listed (completed_of k) s.history _ _ refl;
+  taken_count = refl;
+  settled_count = refl;
 })

@@ -18,13 +18,13 @@ use Rattle.bk_bridge.proofs.MemoryWrites.{block_written, word_written, block_rea
 use Rattle.bk_bridge.proofs.Same.{world}
 
 -- a step where the head is this one
-head-step : (k : Shape) (program : List Form) (n : State) (x : Option (ℕ × Transaction)) (m : Row) (ms : List Row) → 0 < k.sets
+head-step : (k : Shape) (program : List Form) (s : State) (x : Option (ℕ × Transaction)) (m : Row) (ms : List Row) → 0 < k.sets
     → IsOf networks.Memout m
-    → IsStep k program (record n { memout = m ∷ ms }) x events.Memory machine.Memory
-head-step k program n x (rows.Read from to addr) ms l h = record {
+    → IsStep k program (record s { memout = m ∷ ms }) x events.Memory machine.Memory
+head-step k program s x (rows.Read from to addr) ms l h = record {
   enabled = refl;
   left = world (record {
-    held = refl;
+    entries = refl;
     words = refl;
     directory = refl;
     recency = refl;
@@ -38,16 +38,16 @@ head-step k program n x (rows.Read from to addr) ms l h = record {
     memout = refl;
     transaction = refl;
     history = refl;
-    taken = refl;
-    settled = refl;
-    memin = pushed (as_block k) n.memin _ _ (λ i. Some
-        (group-start k addr i, record { tag = tag-start k addr i; words = block_read k n.memory addr l i }));
+    taken_count = refl;
+    settled_count = refl;
+    memin = pushed (as_block k) s.memin _ _ (λ i. Some
+        (group-start k addr i, record { tag = tag-start k addr i; words = block_read k s.memory addr l i }));
   });
 }
-head-step k program n x (rows.Write from to addr words) ms l h = record {
+head-step k program s x (rows.Write from to addr words) ms l h = record {
   enabled = refl;
   left = world (record {
-    held = refl;
+    entries = refl;
     words = refl;
     directory = refl;
     recency = refl;
@@ -60,16 +60,16 @@ head-step k program n x (rows.Write from to addr words) ms l h = record {
     memout = refl;
     transaction = refl;
     history = refl;
-    taken = refl;
-    settled = refl;
-    memory = block_written k n.memory addr words l h.whole.block;
-    memin = unpushed (as_block k) n.memin;
+    taken_count = refl;
+    settled_count = refl;
+    memory = block_written k s.memory addr words l h.whole.block;
+    memin = unpushed (as_block k) s.memin;
   });
 }
-head-step k program n x (rows.WriteWord from to addr word) ms l h = record {
+head-step k program s x (rows.WriteWord from to addr word) ms l h = record {
   enabled = refl;
   left = world (record {
-    held = refl;
+    entries = refl;
     words = refl;
     directory = refl;
     recency = refl;
@@ -82,19 +82,20 @@ head-step k program n x (rows.WriteWord from to addr word) ms l h = record {
     memout = refl;
     transaction = refl;
     history = refl;
-    taken = refl;
-    settled = refl;
-    memory = word_written k n.memory addr word l h.whole.address.aligned;
-    memin = unpushed (as_block k) n.memin;
+    taken_count = refl;
+    settled_count = refl;
+    memory = word_written k s.memory addr word l h.whole.address.aligned;
+    memin = unpushed (as_block k) s.memin;
   });
 }
-head-step k program n x m ms l h = absurd (cc h.is)
+head-step k program s x m ms l h = absurd (cc h.is)
 
-channel-step : (k : Shape) (program : List Form) (n : State) (x : Option (ℕ × Transaction)) (ms : List Row) → 0 < k.sets → AreOf networks.Memout ms
-    → IsStep k program (record n { memout = ms }) x events.Memory machine.Memory
-channel-step k program n x [] l h = record { enabled = refl; left = refl }
-channel-step k program n x (m ∷ ms) l h = head-step k program n x m ms l h.0
+channel-step : (k : Shape) (program : List Form) (s : State) (x : Option (ℕ × Transaction)) (ms : List Row) → 0 < k.sets
+    → AreOf networks.Memout ms
+    → IsStep k program (record s { memout = ms }) x events.Memory machine.Memory
+channel-step k program s x [] l h = record { enabled = refl; left = refl }
+channel-step k program s x (m ∷ ms) l h = head-step k program s x m ms l h.0
 
-pub memory_step : (k : Shape) (program : List Form) (n : State) (x : Option (ℕ × Transaction)) → WellFormed k n
-    → IsStep k program n x events.Memory machine.Memory
-memory_step k program n x f = channel-step k program n x n.memout (sets_pos k f.profile) f.memout
+pub memory_step : (k : Shape) (program : List Form) (s : State) (x : Option (ℕ × Transaction)) → WellFormed k s
+    → IsStep k program s x events.Memory machine.Memory
+memory_step k program s x f = channel-step k program s x s.memout (sets_pos k f.profile) f.memout

@@ -13,20 +13,21 @@ use Rattle.bk_bridge.specs.Worlds.{word_at}
 use Rattle.bk_bridge.proofs.Places.{block_by_parts, same_word, address-block, address-word, address-aligned}
 
 -- a block's number, by its parts
-same_block : (k : Shape) (s t addr : ℕ) → s < k.sets → eqb (t * k.sets + s) (block_of addr) ≡ (eqb s (group_of k addr) && eqb t (tag_at k addr))
-same_block k s t addr l =
-    block_by_parts k.sets (t * k.sets + s) (block_of addr) (omega arith)
-    ∙ ap (λ (r : ℕ). eqb r (group_of k addr) && eqb ((t * k.sets + s) / k.sets) (tag_at k addr)) (mod-mul-add t k.sets s l)
-    ∙ ap (λ (q : ℕ). eqb s (group_of k addr) && eqb q (tag_at k addr)) (div-mul-add t k.sets s l)
+same_block : (k : Shape) (g t addr : ℕ) → g < k.sets → eqb (t * k.sets + g) (block_of addr)
+    ≡ (eqb g (group_of k addr) && eqb t (tag_at k addr))
+same_block k g t addr l =
+    block_by_parts k.sets (t * k.sets + g) (block_of addr) (omega arith)
+    ∙ ap (λ (r : ℕ). eqb r (group_of k addr) && eqb ((t * k.sets + g) / k.sets) (tag_at k addr)) (mod-mul-add t k.sets g l)
+    ∙ ap (λ (q : ℕ). eqb g (group_of k addr) && eqb q (tag_at k addr)) (div-mul-add t k.sets g l)
 
 -- a word of the memory after a block was written
-block-at : (k : Shape) (memory : ℕ → ℕ) (addr : ℕ) (ws : List ℕ) (s t i : ℕ) → s < k.sets → i < 8
-    → with_block memory addr ws (address_in k s t + i * 8)
-    ≡ cond (eqb s (group_of k addr) && eqb t (tag_at k addr)) (get_or ws i 0) (memory (address_in k s t + i * 8))
-block-at k memory addr ws s t i l h = lem (t * k.sets + s) (same_block k s t addr l)
+block-at : (k : Shape) (memory : ℕ → ℕ) (addr : ℕ) (ws : List ℕ) (g t i : ℕ) → g < k.sets → i < 8
+    → with_block memory addr ws (address_in k g t + i * 8)
+    ≡ cond (eqb g (group_of k addr) && eqb t (tag_at k addr)) (get_or ws i 0) (memory (address_in k g t + i * 8))
+block-at k memory addr ws g t i l h = lem (t * k.sets + g) (same_block k g t addr l)
   where
-    lem : (b : ℕ) → eqb b (block_of addr) ≡ (eqb s (group_of k addr) && eqb t (tag_at k addr))
-        → with_block memory addr ws (b * 64 + i * 8) ≡ cond (eqb s (group_of k addr) && eqb t (tag_at k addr)) (get_or ws i 0)
+    lem : (b : ℕ) → eqb b (block_of addr) ≡ (eqb g (group_of k addr) && eqb t (tag_at k addr))
+        → with_block memory addr ws (b * 64 + i * 8) ≡ cond (eqb g (group_of k addr) && eqb t (tag_at k addr)) (get_or ws i 0)
         (memory (b * 64 + i * 8))
     lem b e = grind (arith, nat_tests, address-block b i h, address-word b i h, address-aligned b i)
 
@@ -34,18 +35,18 @@ pub block_written : (k : Shape) (memory : ℕ → ℕ) (addr : ℕ) (ws : List �
     → word_at k (with_block memory addr ws) ≡ put (word_at k memory) (group_of k addr)
     (write_block (word_at k memory (group_of k addr)) (tag_at k addr) (words_of ws))
 unfolding put
-block_written k memory addr ws l e = fun_ext (λ s. fun_ext (λ t. fun_ext (λ i. at s t i)))
+block_written k memory addr ws l e = fun_ext (λ g. fun_ext (λ t. fun_ext (λ i. at g t i)))
   where
     inside : group_of k addr < k.sets
     inside = mod-lt _ l
 
-    at : (s t i : ℕ) → word_at k (with_block memory addr ws) s t i
-        ≡ put (word_at k memory) (group_of k addr) (write_block (word_at k memory (group_of k addr)) (tag_at k addr) (words_of ws)) s t i
-    at s t i = grind (arith, nat_tests, block-at k memory addr ws s t i, get_or_past ws i 0, inside)
+    at : (g t i : ℕ) → word_at k (with_block memory addr ws) g t i
+        ≡ put (word_at k memory) (group_of k addr) (write_block (word_at k memory (group_of k addr)) (tag_at k addr) (words_of ws)) g t i
+    at g t i = grind (arith, nat_tests, block-at k memory addr ws g t i, get_or_past ws i 0, inside)
 
-word-at : (k : Shape) (memory : ℕ → ℕ) (addr n s t i : ℕ) → addr % 8 ≡ 0 → s < k.sets → i < 8
-    → put memory addr n (address_in k s t + i * 8)
-    ≡ cond ((eqb s (group_of k addr) && eqb t (tag_at k addr)) && eqb i (word_of addr)) n (memory (address_in k s t + i * 8))
+word-at : (k : Shape) (memory : ℕ → ℕ) (addr n g t i : ℕ) → addr % 8 ≡ 0 → g < k.sets → i < 8
+    → put memory addr n (address_in k g t + i * 8)
+    ≡ cond ((eqb g (group_of k addr) && eqb t (tag_at k addr)) && eqb i (word_of addr)) n (memory (address_in k g t + i * 8))
 unfolding put
 word-at k memory addr n s t i f l h = lem (t * k.sets + s) (same_block k s t addr l)
   where
@@ -63,7 +64,7 @@ pub word_written : (k : Shape) (memory : ℕ → ℕ) (addr n : ℕ) → 0 < k.s
     → word_at k (put memory addr n)
     ≡ put (word_at k memory) (group_of k addr) (write_word (word_at k memory (group_of k addr)) (tag_at k addr) (word_of addr) n)
 unfolding put
-word_written k memory addr n l f = fun_ext (λ s. fun_ext (λ t. fun_ext (λ i. at s t i)))
+word_written k memory addr n l f = fun_ext (λ g. fun_ext (λ t. fun_ext (λ i. at g t i)))
   where
     inside : group_of k addr < k.sets
     inside = mod-lt _ l
@@ -71,9 +72,10 @@ word_written k memory addr n l f = fun_ext (λ s. fun_ext (λ t. fun_ext (λ i. 
     place : word_of addr < 8
     place = omega arith
 
-    at : (s t i : ℕ) → word_at k (put memory addr n) s t i
-        ≡ put (word_at k memory) (group_of k addr) (write_word (word_at k memory (group_of k addr)) (tag_at k addr) (word_of addr) n) s t i
-    at s t i = grind (arith, nat_tests, word-at k memory addr n s t i f, inside, place)
+    at : (g t i : ℕ) → word_at k (put memory addr n) g t i
+        ≡ put (word_at k memory) (group_of k addr)
+        (write_word (word_at k memory (group_of k addr)) (tag_at k addr) (word_of addr) n) g t i
+    at g t i = grind (arith, nat_tests, word-at k memory addr n g t i f, inside, place)
 
 -- what a Read answers: the words of the block, and 0 past them
 eight_at : (m : ℕ → ℕ) (a i : ℕ) → words_of (words_from m a) i ≡ cond (ltb i 8) (m (a + i * 8)) 0
@@ -91,4 +93,5 @@ block_read k memory addr l = fun_ext (λ i. eight_at memory (block_start addr) i
 
     at : (i : ℕ) → cond (ltb i 8) (memory (block_start addr + i * 8)) 0 ≡ word_at k memory (group_of k addr) (tag_at k addr) i
     at i = ap (λ (b : ℕ). cond (ltb i 8) (memory (b * 64 + i * 8)) 0) (sym parts)
-        ∙ ap (λ (x : Bool). cond (x && ltb i 8) (memory (address_in k (group_of k addr) (tag_at k addr) + i * 8)) 0) (sym (lt-ltb _ _ inside))
+        ∙ ap (λ (test : Bool). cond (test && ltb i 8) (memory (address_in k (group_of k addr) (tag_at k addr) + i * 8)) 0)
+        (sym (lt-ltb _ _ inside))

@@ -7,7 +7,7 @@ use Rattle.bk_base.specs.Places.{Shape, InProfile, is_set_count}
 use Rattle.bk_base.specs.Counting.{join_below}
 use Rattle.bk_system.specs.State.{opening}
 use Rattle.bk_machine.specs.Products.{words_of}
-use Rattle.bk_machine.specs.World.{empty, ways_from}
+use Rattle.bk_machine.specs.World.{empty_world, ways_from}
 use Rattle.bk_bridge.specs.Worlds.{world_of}
 use Rattle.bk_bridge.specs.Formed.{WellFormed}
 use Rattle.bk_bridge.proofs.Same.{world}
@@ -20,21 +20,23 @@ zeros (suc n) (suc i) = zeros n i
 eight-zeros : ◌≡◌ {A = ℕ → ℕ} (words_of (replicate 8 0)) (λ i. 0)
 eight-zeros = fun_ext (λ i. zeros 8 i)
 
-one_more : (n m : ℕ) → ways_from n m ++ (m + n) ∷ [] ≡ ways_from (suc n) m
-one_more zero m = ap (λ (i : ℕ). i ∷ []) (omega arith)
-one_more (suc n) m = ap (λ (i : ℕ). m ∷ (ways_from n (m + 1) ++ i ∷ [])) (omega arith) ∙ ap (λ (ws : List ℕ). m ∷ ws) (one_more n (m + 1))
+one_more : (n number : ℕ) → ways_from n number ++ (number + n) ∷ [] ≡ ways_from (suc n) number
+one_more zero number = ap (λ (i : ℕ). i ∷ []) (omega arith)
+one_more (suc n) number = ap (λ (i : ℕ). number ∷ (ways_from n (number + 1) ++ i ∷ [])) (omega arith)
+    ∙ ap (λ (ws : List ℕ). number ∷ ws) (one_more n (number + 1))
 
 in-order : (n : ℕ) → join_below n (λ w. w ∷ []) ≡ ways_from n 0
 in-order zero = refl
-in-order (suc n) = ap (λ (ws : List ℕ). ws ++ n ∷ []) (in-order n) ∙ ap (λ (i : ℕ). ways_from n 0 ++ i ∷ []) (omega arith) ∙ one_more n 0
+in-order (suc n) = ap (λ (ws : List ℕ). ws ++ n ∷ []) (in-order n) ∙ ap (λ (i : ℕ). ways_from n 0 ++ i ∷ []) (omega arith)
+    ∙ one_more n 0
 
 same-both : (b : Bool) (n : ℕ) → cond b n n ≡ n
 same-both true n = refl
 same-both false n = refl
 
-pub opens_empty : (k : Shape) → world_of k (opening k) None ≡ empty k.ways
+pub opens_empty : (k : Shape) → world_of k (opening k) None ≡ empty_world k.ways
 opens_empty k = world (record {
-  held = refl;
+  entries = refl;
   words = λ i s c w. eight-zeros i;
   directory = refl;
   recency = λ i s c. in-order k.ways i;
@@ -49,8 +51,8 @@ opens_empty k = world (record {
   memin = refl;
   transaction = refl;
   history = refl;
-  taken = refl;
-  settled = refl;
+  taken_count = refl;
+  settled_count = refl;
 })
 
 set-count : (n : ℕ) → is_set_count n ≡ true → (0 < n) × (n ≤ 64)

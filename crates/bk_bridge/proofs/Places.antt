@@ -25,14 +25,15 @@ pub start_IsAddr : (a : ℕ) → IsAddr a → IsAddr (block_start a)
 start_IsAddr a h = record { below = omega arith; aligned = omega arith }
 
 -- two blocks are one where group and tag are the same
-pub block_by_parts : (s a b : ℕ) → 0 < s → eqb a b ≡ (eqb (a % s) (b % s) && eqb (a / s) (b / s))
-block_by_parts s a b l = go (eqb a b) refl (eqb (a % s) (b % s)) refl (eqb (a / s) (b / s)) refl
+pub block_by_parts : (g a b : ℕ) → 0 < g → eqb a b ≡ (eqb (a % g) (b % g) && eqb (a / g) (b / g))
+block_by_parts g a b l = go (eqb a b) refl (eqb (a % g) (b % g)) refl (eqb (a / g) (b / g)) refl
   where
-    parts : a % s ≡ b % s → a / s ≡ b / s → a ≡ b
-    parts e f = sym (div-add-mod' a s) ∙ ap (λ (q : ℕ). q * s + a % s) f ∙ ap (λ (r : ℕ). b / s * s + r) e ∙ div-add-mod' b s
+    parts : a % g ≡ b % g → a / g ≡ b / g → a ≡ b
+    parts e f = sym (div-add-mod' a g) ∙ ap (λ (q : ℕ). q * g + a % g) f ∙ ap (λ (r : ℕ). b / g * g + r) e ∙ div-add-mod' b g
 
-    go : (x : Bool) → eqb a b ≡ x → (y : Bool) → eqb (a % s) (b % s) ≡ y → (z : Bool) → eqb (a / s) (b / s) ≡ z → x ≡ (y && z)
-    go x p y q z r = grind (arith, nat_tests, parts)
+    go : (test : Bool) → eqb a b ≡ test → (y : Bool) → eqb (a % g) (b % g) ≡ y → (z : Bool) → eqb (a / g) (b / g) ≡ z
+        → test ≡ (y && z)
+    go test p y q z r = grind (arith, nat_tests, parts)
 
 -- the address of a word, by its parts
 pub address-block : (b i : ℕ) → i < 8 → (b * 64 + i * 8) / 64 ≡ b
@@ -53,13 +54,14 @@ pub blocks : (k : Shape) (a b : ℕ) → 0 < k.sets
 blocks k a b l = block_by_parts k.sets (block_of a) (block_of b) l
 
 -- two words are one where their parts are
-pub same_word : (a addr : ℕ) → a % 8 ≡ 0 → addr % 8 ≡ 0 → eqb a addr ≡ (eqb (a / 64) (addr / 64) && eqb (a / 8 % 8) (addr / 8 % 8))
+pub same_word : (a addr : ℕ) → a % 8 ≡ 0 → addr % 8 ≡ 0 → eqb a addr
+    ≡ (eqb (a / 64) (addr / 64) && eqb (a / 8 % 8) (addr / 8 % 8))
 same_word a addr e f = grind (arith, nat_tests, lem)
   where
     lem : a / 64 ≡ addr / 64 → a / 8 % 8 ≡ addr / 8 % 8 → a ≡ addr
     lem g h = omega arith
 
-and-assoc : (x y z : Bool) → ((x && y) && z) ≡ (x && (y && z))
+and-assoc : (b y z : Bool) → ((b && y) && z) ≡ (b && (y && z))
 and-assoc true y z = refl
 and-assoc false y z = refl
 

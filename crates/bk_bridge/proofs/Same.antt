@@ -2,28 +2,28 @@
 use Rattle.std.proofs.Common.{◌≡◌}
 use Rattle.bk_machine.specs.World.{World}
 
-pub record Same (v w : World) : Type 0 where
-  pub held : v.held ≡ w.held
-  pub words : v.words ≡ w.words
-  pub directory : v.directory ≡ w.directory
-  pub recency : v.recency ≡ w.recency
-  pub busy : v.busy ≡ w.busy
-  pub pending : v.pending ≡ w.pending
-  pub memory : v.memory ≡ w.memory
-  pub request : v.request ≡ w.request
-  pub command : v.command ≡ w.command
-  pub fill : v.fill ≡ w.fill
-  pub response : v.response ≡ w.response
-  pub memout : v.memout ≡ w.memout
-  pub memin : v.memin ≡ w.memin
-  pub transaction : v.transaction ≡ w.transaction
-  pub history : v.history ≡ w.history
-  pub taken : v.taken ≡ w.taken
-  pub settled : v.settled ≡ w.settled
+pub record Same (world later : World) : Type 0 where
+  pub entries : world.entries ≡ later.entries
+  pub words : world.words ≡ later.words
+  pub directory : world.directory ≡ later.directory
+  pub recency : world.recency ≡ later.recency
+  pub busy : world.busy ≡ later.busy
+  pub pending : world.pending ≡ later.pending
+  pub memory : world.memory ≡ later.memory
+  pub request : world.request ≡ later.request
+  pub command : world.command ≡ later.command
+  pub fill : world.fill ≡ later.fill
+  pub response : world.response ≡ later.response
+  pub memout : world.memout ≡ later.memout
+  pub memin : world.memin ≡ later.memin
+  pub transaction : world.transaction ≡ later.transaction
+  pub history : world.history ≡ later.history
+  pub taken_count : world.taken_count ≡ later.taken_count
+  pub settled_count : world.settled_count ≡ later.settled_count
 
-pub world : {v w : World} → Same v w → v ≡ w
+pub world : {later then_world : World} → Same later then_world → later ≡ then_world
 world e = λ i. record {
-  held = e.held i;
+  entries = e.entries i;
   words = e.words i;
   directory = e.directory i;
   recency = e.recency i;
@@ -38,6 +38,6 @@ world e = λ i. record {
   memin = e.memin i;
   transaction = e.transaction i;
   history = e.history i;
-  taken = e.taken i;
-  settled = e.settled i;
+  taken_count = e.taken_count i;
+  settled_count = e.settled_count i;
 }

@@ -9,8 +9,8 @@ use Rattle.bk_msg.specs.declared.row.Row.{Row}
 use Rattle.bk_dir.specs.declared.entry.Summary.{Summary}
 use Rattle.bk_dir.specs.Contents.{Contents}
 use Rattle.bk_engine.specs.declared.parts.Held.{Held}
-use Rattle.bk_engine.specs.declared.parts.Kept.{Kept}
-use Rattle.bk_engine.specs.Core.{EngineState}
+use Rattle.bk_engine.specs.declared.parts.DirtyBlock.{DirtyBlock}
+use Rattle.bk_engine.specs.Engine.{EngineState}
 use Rattle.bk_engine.specs.Reads.{summary_for}
 use Rattle.bk_engine.specs.Sends.{is_invalidated, inv_to, invs, flush_to, victim_address, flushes, transfer_to, grants, answers_word, writes_back, sends_for, sends_held, sends}
 use Rattle.bk_bridge.specs.Formed.{IsWhole, WellFormedEngine}
@@ -30,10 +30,11 @@ joined : (n : ℕ) (f : ℕ → List Row) → ((c : ℕ) → AreWhole (f c)) →
 joined zero f h = tt
 joined (suc n) f h = both (join_below n f) (f n) (joined n f h) (h n)
 
-invs-whole : (k : Shape) (held : Held) (with_owner : Bool) (s : Summary) → IsAddr held.addr → AreWhole (invs k held with_owner s)
-invs-whole k held with_owner s a =
-    joined k.caches (inv_to held with_owner s)
-    (λ c. cond-all AreWhole (is_invalidated with_owner s c) _ [] (record { address = start_IsAddr held.addr a; block = tt }, tt) tt)
+invs-whole : (k : Shape) (held : Held) (with_owner : Bool) (summary : Summary) → IsAddr held.addr
+    → AreWhole (invs k held with_owner summary)
+invs-whole k held with_owner summary a =
+    joined k.caches (inv_to held with_owner summary)
+    (λ c. cond-all AreWhole (is_invalidated with_owner summary c) _ [] (record { address = start_IsAddr held.addr a; block = tt }, tt) tt)
 
 flush_to-whole : (at : Option (ℕ × ℕ)) (state : Coh) (addr : ℕ) → IsAddr addr → AreWhole (flush_to at state addr)
 flush_to-whole None state addr a = tt
@@ -60,31 +61,34 @@ word-whole : (held : Held) (got : Option (List ℕ)) → IsAddr held.addr → Ar
 word-whole held None a = tt
 word-whole held (Some words) a = (record { address = a; block = tt }, tt)
 
-back-whole : (kept : Option Kept) → IfSome kept (λ d. IsAddr d.addr × (length d.words ≡ 8)) → AreWhole (writes_back kept)
+back-whole : (kept : Option DirtyBlock) → IfSome kept (λ d. IsAddr d.addr × (length d.words ≡ 8)) → AreWhole (writes_back kept)
 back-whole None h = tt
 back-whole (Some kept) h = (record { address = start_IsAddr kept.addr h.0; block = h.1 }, tt)
 
-for-whole : (k : Shape) (n : EngineState) (held : Held) (f : Form) → InProfile k → WellFormedEngine k n → IsAddr held.addr
-    → AreWhole (sends_for k n held f)
-for-whole k n held (Inv a') p h a = invs-whole k held (a' == 1) (summary_for k n.directory held) a
-for-whole k n held (Stwb who state) p h a =
-    flushes-whole k n.directory held who state a
+for-whole : (k : Shape) (engine : EngineState) (held : Held) (f : Form) → InProfile k → WellFormedEngine k engine → IsAddr held.addr
+    → AreWhole (sends_for k engine held f)
+for-whole k engine held (Inv a') p h a = invs-whole k held (a' == 1) (summary_for k engine.directory held) a
+for-whole k engine held (Stwb who state) p h a =
+    flushes-whole k engine.directory held who state a
     (in_IsAddr k (group_of k held.addr) _ p (mod-lt _ (sets_pos k p)) (h.entries held.source (group_of k held.addr) held.way))
-for-whole k n held (Tr owner_state state) p h a = transfer_to-whole held (summary_for k n.directory held).owner owner_state state a
-for-whole k n held (Blk state) p h a = grants-whole held state n.core.got a h.got
-for-whole k n held Wake p h a = (record { address = start_IsAddr held.addr a; block = tt }, tt)
-for-whole k n held Ucblk p h a = word-whole held n.core.got a
-for-whole k n held Ucdone p h a = (record { address = a; block = tt }, tt)
-for-whole k n held Done p h a = (record { address = start_IsAddr held.addr a; block = tt }, tt)
-for-whole k n held Memrd p h a = (record { address = start_IsAddr held.addr a; block = tt }, tt)
-for-whole k n held Memww p h a = (record { address = a; block = tt }, tt)
-for-whole k n held f p h a = tt
+for-whole k engine held (Tr owner_state state) p h a =
+    transfer_to-whole held (summary_for k engine.directory held).owner owner_state state a
+for-whole k engine held (Blk state) p h a = grants-whole held state engine.core.got a h.got
+for-whole k engine held Wake p h a = (record { address = start_IsAddr held.addr a; block = tt }, tt)
+for-whole k engine held Ucblk p h a = word-whole held engine.core.got a
+for-whole k engine held Ucdone p h a = (record { address = a; block = tt }, tt)
+for-whole k engine held Done p h a = (record { address = start_IsAddr held.addr a; block = tt }, tt)
+for-whole k engine held Memrd p h a = (record { address = start_IsAddr held.addr a; block = tt }, tt)
+for-whole k engine held Memww p h a = (record { address = a; block = tt }, tt)
+for-whole k engine held f p h a = tt
 
-held-whole : (k : Shape) (n : EngineState) (held : Option Held) (f : Form) → InProfile k → WellFormedEngine k n → IfSome held (λ y. IsAddr y.addr)
-    → AreWhole (sends_held k n held f)
-held-whole k n None f p h a = tt
-held-whole k n (Some held) f p h a = for-whole k n held f p h a
+held-whole : (k : Shape) (engine : EngineState) (held : Option Held) (f : Form) → InProfile k → WellFormedEngine k engine
+    → IfSome held (λ y. IsAddr y.addr)
+    → AreWhole (sends_held k engine held f)
+held-whole k engine None f p h a = tt
+held-whole k engine (Some held) f p h a = for-whole k engine held f p h a
 
-pub sends-whole : (k : Shape) (n : EngineState) (f : Form) → InProfile k → WellFormedEngine k n → AreWhole (sends k n f)
-sends-whole k n Memwb p h = back-whole n.core.dirty h.dirty
-sends-whole k n f p h = held-whole k n n.core.held f p h h.held
+pub sends-whole : (k : Shape) (engine : EngineState) (f : Form) → InProfile k → WellFormedEngine k engine
+    → AreWhole (sends k engine f)
+sends-whole k engine Memwb p h = back-whole engine.core.dirty h.dirty
+sends-whole k engine f p h = held-whole k engine engine.core.held f p h h.held

@@ -11,22 +11,26 @@ pub request-to : (c : ℕ) (m : Row) (channel : ℕ → List Row) → network_of
     → requests_with c (Some m) channel ≡ put channel c (channel c ++ m ∷ [])
 request-to c m channel e = ap (λ (n : Network). added_if (is_request n) c m channel) e
 
-pub request-no_response : (c : ℕ) (m : Row) (channel : ℕ → List Row) → network_of m ≡ networks.Request → responses_with c (Some m) channel ≡ channel
+pub request-no_response : (c : ℕ) (m : Row) (channel : ℕ → List Row) → network_of m ≡ networks.Request
+    → responses_with c (Some m) channel ≡ channel
 request-no_response c m channel e = ap (λ (n : Network). added_if (is_response n) c m channel) e
 
-pub request-no_fill : (c : ℕ) (m : Row) (channel : ℕ → ℕ → List Row) → network_of m ≡ networks.Request → fills_with c (Some m) channel ≡ channel
+pub request-no_fill : (c : ℕ) (m : Row) (channel : ℕ → ℕ → List Row) → network_of m ≡ networks.Request
+    → fills_with c (Some m) channel ≡ channel
 request-no_fill c m channel e =
     ap (λ (n : Network). cond (is_fill n) (put channel (receiver_of m)
     (put (channel (receiver_of m)) c (channel (receiver_of m) c ++ m ∷ []))) channel) e
 
-pub response-no_request : (c : ℕ) (m : Row) (channel : ℕ → List Row) → network_of m ≡ networks.Response → requests_with c (Some m) channel ≡ channel
+pub response-no_request : (c : ℕ) (m : Row) (channel : ℕ → List Row) → network_of m ≡ networks.Response
+    → requests_with c (Some m) channel ≡ channel
 response-no_request c m channel e = ap (λ (n : Network). added_if (is_request n) c m channel) e
 
 pub response-to : (c : ℕ) (m : Row) (channel : ℕ → List Row) → network_of m ≡ networks.Response
     → responses_with c (Some m) channel ≡ put channel c (channel c ++ m ∷ [])
 response-to c m channel e = ap (λ (n : Network). added_if (is_response n) c m channel) e
 
-pub response-no_fill : (c : ℕ) (m : Row) (channel : ℕ → ℕ → List Row) → network_of m ≡ networks.Response → fills_with c (Some m) channel ≡ channel
+pub response-no_fill : (c : ℕ) (m : Row) (channel : ℕ → ℕ → List Row) → network_of m ≡ networks.Response
+    → fills_with c (Some m) channel ≡ channel
 response-no_fill c m channel e =
     ap (λ (n : Network). cond (is_fill n) (put channel (receiver_of m)
     (put (channel (receiver_of m)) c (channel (receiver_of m) c ++ m ∷ []))) channel) e

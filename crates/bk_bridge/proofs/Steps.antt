@@ -22,18 +22,21 @@ use Rattle.bk_bridge.proofs.Keeps.{run-keeps}
 some-is : {X : Type 0} (a b : X) → Some a ≡ Some b → a ≡ b
 some-is a b e = cc
 
-pub event_step : (k : Shape) (program : List Form) (n : State) (x : Option (ℕ × Transaction)) (e : Event) (m : machine.Event)
-    → WellFormed k n → IsLawful e → event_of k e ≡ Some m → IsStep k program n x e m
-event_step k program n x (events.Issue c op way) m f l e =
-    subst (IsStep k program n x (events.Issue c op way)) (some-is _ _ e) (issue_step k program n x c op way f)
-event_step k program n x (events.Command c) m f l e =
-    subst (IsStep k program n x (events.Command c)) (some-is _ _ e) (command_step k program n x c f)
-event_step k program n x (events.Fill to from) m f l e =
-    subst (IsStep k program n x (events.Fill to from)) (some-is _ _ e) (fill_step k program n x to from f)
-event_step k program n x events.Memory m f l e = subst (IsStep k program n x events.Memory) (some-is _ _ e) (memory_step k program n x f)
-event_step k program n x (events.Engine choice) m f l e = absurd (cc e)
+pub event_step : (k : Shape) (program : List Form) (s : State) (x : Option (ℕ × Transaction)) (e : Event) (event : machine.Event)
+    → WellFormed k s → IsLawful e → event_of k e ≡ Some event → IsStep k program s x e event
+event_step k program s x (events.Issue c op way) event f l e =
+    subst (IsStep k program s x (events.Issue c op way)) (some-is _ _ e) (issue_step k program s x c op way f)
+event_step k program s x (events.Command c) event f l e =
+    subst (IsStep k program s x (events.Command c)) (some-is _ _ e) (command_step k program s x c f)
+event_step k program s x (events.Fill to from) event f l e =
+    subst (IsStep k program s x (events.Fill to from)) (some-is _ _ e) (fill_step k program s x to from f)
+event_step k program s x events.Memory event f l e =
+    subst (IsStep k program s x events.Memory) (some-is _ _ e) (memory_step k program s x f)
+event_step k program s x (events.Engine choice) event f l e = absurd (cc e)
 
-pub reached-step : (k : Shape) (program : List Form) (es : List Event) (x : Option (ℕ × Transaction)) (e : Event) (m : machine.Event)
-    → InProfile k → AreLawful es → IsLawful e → event_of k e ≡ Some m → IsStep k program (run k program es) x e m
-reached-step k program es x e m p ls l i =
-    event_step k program (run k program es) x e m (run-keeps k program (opening k) es (opens_formed k p) ls) l i
+pub reached-step : (k : Shape) (program : List Form) (es : List Event) (x : Option (ℕ × Transaction)) (event : Event)
+    (machine_event : machine.Event)
+    → InProfile k → AreLawful es → IsLawful event → event_of k event ≡ Some machine_event
+    → IsStep k program (run k program es) x event machine_event
+reached-step k program es x event machine_event p ls l i =
+    event_step k program (run k program es) x event machine_event (run-keeps k program (opening k) es (opens_formed k p) ls) l i

@@ -16,7 +16,8 @@ put-same_at f m c n e i true t = e ∙ ap (λ (j : ℕ). f (m j)) (sym (eqb-true
 put-same_at f m c n e i false t = refl
 
 -- what a write doesn't change of its value, it changes nowhere
-pub put-same : {X Y : Type 0} (f : X → Y) (m : ℕ → X) (c : ℕ) (n : X) → f n ≡ f (m c) → ◌≡◌ {A = ℕ → Y} (λ i. f (put m c n i)) (λ i. f (m i))
+pub put-same : {X Y : Type 0} (f : X → Y) (m : ℕ → X) (c : ℕ) (n : X) → f n ≡ f (m c)
+    → ◌≡◌ {A = ℕ → Y} (λ i. f (put m c n i)) (λ i. f (m i))
 unfolding put
 put-same f m c n e = fun_ext (λ i. put-same_at f m c n e i (eqb i c) refl)
 
@@ -27,9 +28,10 @@ unfolding put
 put-of {Y = Y} f m c n y e = fun_ext (λ i. of-cond f (eqb i c) n (m i) ∙ ap (λ (z : Y). cond (eqb i c) z (f (m i))) e)
 
 -- A write at c of a table by group and cache, from one by cache and group: all other entries of c stay.
-pub put-turned : {X : Type 0} (m : ℕ → ℕ → ℕ → X) (c s v : ℕ) (n : ℕ → ℕ → X) (y : X)
-    → ((g w : ℕ) → n g w ≡ put (m c) s (put (m c s) v y) g w)
-    → ◌≡◌ {A = ℕ → ℕ → ℕ → X} (λ g i w. put m c n i g w) (put (λ g i w. m i g w) s (put2 (λ i w. m i s w) c v y))
+pub put-turned : {X : Type 0} (m : ℕ → ℕ → ℕ → X) (c group v : ℕ) (n : ℕ → ℕ → X) (y : X)
+    → ((g w : ℕ) → n g w ≡ put (m c) group (put (m c group) v y) g w)
+    → ◌≡◌ {A = ℕ → ℕ → ℕ
+    → X} (λ g i w. put m c n i g w) (put (λ g i w. m i g w) group (put2 (λ i w. m i group w) c v y))
 unfolding put put2
 put-turned m c s v n y e = fun_ext (λ g. fun_ext (λ i. fun_ext (λ w. at g i w)))
   where

@@ -8,7 +8,7 @@ use Rattle.bk_lce.specs.declared.line.InProgress.{InProgress as Begun}
 use Rattle.bk_dir.specs.declared.entry.Entry.{Entry as DirectoryEntry}
 use Rattle.bk_system.specs.declared.event.Event.{Event as SystemEvent}
 use Rattle.bk_system.specs.declared.event.Event.TheVariants as events
-use Rattle.bk_system.specs.declared.event.Group.{Group}
+use Rattle.bk_system.specs.declared.event.Origin.{Origin}
 use Rattle.bk_system.specs.State.{State}
 use Rattle.bk_machine.specs.Entries.{Entry}
 use Rattle.bk_machine.specs.Transactions.{InProgress, Transaction}
@@ -21,7 +21,7 @@ abbrev pub entry_of : Line → Entry
 entry_of line = record { tag = line.tag; state = line.state }
 
 abbrev pub listed_of : DirectoryEntry → Entry
-listed_of e = record { tag = e.tag; state = e.state }
+listed_of entry = record { tag = entry.tag; state = entry.state }
 
 -- an operation in progress, with its way group
 abbrev pub begun_of : Shape → Option Begun → Option (ℕ × InProgress)
@@ -31,33 +31,33 @@ begun_of k (Some b) = Some ((op_of k b.op).0, record { op = (op_of k b.op).1; wa
 -- A word of the memory by group, tag and place. Where the group isn't below the sets or the place not below 8 there is no such
 -- word, and the value is 0 (without this test another word's address would come out).
 abbrev pub word_at : Shape → (ℕ → ℕ) → ℕ → ℕ → ℕ → ℕ
-word_at k memory s t i = if nat_lt s k.sets && nat_lt i 8 then memory (address_in k s t + i * 8) else 0
+word_at k memory g t i = if nat_lt g k.sets && nat_lt i 8 then memory (address_in k g t + i * 8) else 0
 
 -- how often a group stands in a list
-abbrev pub count_of : List Group → ℕ → ℕ
-count_of gs s = count_by (λ g. g.group == s) gs
+abbrev pub count_of : List Origin → ℕ → ℕ
+count_of gs group = count_by (λ g. g.group == group) gs
 
 -- The machine's state. The transaction is no part of the system's state, so it is handed in. Of a channel the messages of its own
 -- network are taken: in each state that is met all are (WellFormed).
 abbrev pub world_of : Shape → State → Option (ℕ × Transaction) → World
-world_of k n x = record {
-  held = λ s c w. entry_of ((n.caches c).lines s w);
-  words = λ s c w. words_of ((n.caches c).lines s w).words;
-  directory = λ s c w. listed_of (n.engine.directory.entries c s w);
-  recency = λ s c. (n.caches c).recency s;
-  busy = λ c. begun_of k (n.caches c).busy;
-  pending = n.engine.directory.pending;
-  memory = word_at k n.memory;
-  request = λ c. filter_map (as_request k) (n.request c);
-  command = λ c. filter_map (as_command k) (n.command c);
-  fill = λ to from. filter_map (as_fill k) (n.fill to from);
-  response = λ c. filter_map (as_response k) (n.response c);
-  memout = filter_map (as_to_memory k) n.memout;
-  memin = filter_map (as_block k) n.memin;
+world_of k later x = record {
+  entries = λ s c w. entry_of ((later.caches c).lines s w);
+  words = λ s c w. words_of ((later.caches c).lines s w).words;
+  directory = λ s c w. listed_of (later.engine.directory.entries c s w);
+  recency = λ s c. (later.caches c).recency s;
+  busy = λ c. begun_of k (later.caches c).busy;
+  pending = later.engine.directory.pending;
+  memory = word_at k later.memory;
+  request = λ c. filter_map (as_request k) (later.request c);
+  command = λ c. filter_map (as_command k) (later.command c);
+  fill = λ to from. filter_map (as_fill k) (later.fill to from);
+  response = λ c. filter_map (as_response k) (later.response c);
+  memout = filter_map (as_to_memory k) later.memout;
+  memin = filter_map (as_block k) later.memin;
   transaction = x;
-  history = map (completed_of k) n.history;
-  taken = count_of n.taken;
-  settled = count_of n.settled;
+  history = map (completed_of k) later.history;
+  taken_count = count_of later.taken;
+  settled_count = count_of later.settled;
 }
 
 -- The machine's event of an event of a cache or the memory. What an instruction of the engine is for the machine depends on the

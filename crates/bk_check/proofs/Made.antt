@@ -16,23 +16,25 @@ of_some P (Some y) x h e = subst P (same_Some y x e) h
 of_some P None x h e = absurd (cc)
 
 -- a know line stands at the place of an instruction
-known_below : (count least : ℕ) (lines : List Line) → are_lines count least lines ≡ true → (p : ℕ) (s : Sets) → known lines p ≡ Some s → p < count
-known_below count least [] h p s e = absurd (cc)
-known_below count least (k ∷ ks) h p s e =
+known_below : (count least : ℕ) (lines : List Line) → are_lines count least lines ≡ true → (p : ℕ) (sets : Sets)
+    → known lines p ≡ Some sets → p < count
+known_below count least [] h p sets e = absurd (cc)
+known_below count least (k ∷ ks) h p sets e =
     let parts = and_parts _ (are_lines count (k.0 + 1) ks) h in
-    here (k.0 == p) refl (ltb-true k.0 count (and_parts (nat_le least k.0) _ parts.0).1) (known_below count (k.0 + 1) ks parts.1 p s) e
+    here (k.0 == p) refl (ltb-true k.0 count (and_parts (nat_le least k.0) _ parts.0).1) (known_below count (k.0 + 1) ks parts.1 p sets) e
   where
-    here : (b : Bool) → (k.0 == p) ≡ b → k.0 < count → (known ks p ≡ Some s → p < count) → (if b then Some k.1 else known ks p) ≡ Some s → p < count
+    here : (b : Bool) → (k.0 == p) ≡ b → k.0 < count → (known ks p ≡ Some sets → p < count)
+        → (if b then Some k.1 else known ks p) ≡ Some sets → p < count
     here true i l later e = let at = eqb-true k.0 p i in omega (arith, at, l)
     here false i l later e = later e
 
 -- once each place is read
 pub made : (image : Parts) → 0 < length image.instrs → are_lines (length image.instrs) 0 image.knows ≡ true
     → ((p : ℕ) → p < length image.instrs → (f : Form) → slice_get image.instrs p ≡ Some f → IsInRange f)
-    → ((p : ℕ) → p < length image.instrs → (s : Sets) → known image.knows p ≡ Some s → any_empty s ≡ false)
+    → ((p : ℕ) → p < length image.instrs → (sets : Sets) → known image.knows p ≡ Some sets → any_empty sets ≡ false)
     → IsMade image
 made image some lines forms knows = record {
   some = some;
   forms = λ p f i. forms p (slice_get_within image.instrs p f i) f i;
-  knows = λ p s k. knows p (known_below (length image.instrs) 0 image.knows lines p s k) s k;
+  knows = λ p sets k. knows p (known_below (length image.instrs) 0 image.knows lines p sets k) sets k;
 }

@@ -70,6 +70,8 @@ record Mutants : Type 0 where
   -- `bk kind Rd 62`: a request that was granted goes to a second grant: its taken edge exists
   mesi_60 : IsRefused (with_word mesi 60 0x250401000000003e) 60 4
 
+-- Program, word and know lines are all known, so the definitions compute for each of the 26: every place before meets its obligations,
+-- and at this place that one is the least unmet.
 mutants : Mutants
 mutants = record {
   ei_2 = record { before = refl; unmet = refl };

@@ -4,15 +4,12 @@ use Rattle.bk_base.specs.declared.coh.Coh.TheVariants.{I, S, F, M, O}
 use Rattle.bk_isa.specs.declared.form.Form.{Form}
 use Rattle.bk_isa.specs.declared.form.Form.TheVariants.{Wfq, Bk, Wds, Stwb, Tr}
 use Rattle.bk_know.specs.declared.sets.Sets.{Sets}
-use Rattle.bk_flow.specs.Flow.{idle, held_with}
+use Rattle.bk_know.specs.Sets.{idle_base as idle, held_base as held}
 use Rattle.bk_check.specs.Obligations.{obligations, obligation_5, obligation_6, obligation_10, obligation_12, obligation_19, obligation_21}
 
-abbrev held : Sets
-held = held_with idle
-
 -- there are nineteen obligations from the fifth on
-obligation_count : (f : Form) (s : Sets) → length (obligations f s) ≡ 19
-obligation_count f s = refl
+obligation_count : (f : Form) (sets : Sets) → length (obligations f sets) ≡ 19
+obligation_count f sets = refl
 
 pair-met : obligation_19 (Tr O S) (record held { kind = 1; owner = 8 }) ≡ true
 pair-met = refl

@@ -45,7 +45,7 @@ is_wait _ = false
 
 -- 1. The place has a mask, which is given here. That of place 0 has what enters at the start.
 abbrev pub obligation_1 : ℕ → Sets → Bool
-obligation_1 p s = implies (p == 0) (within start s)
+obligation_1 p sets = implies (p == 0) (within start sets)
 
 -- 2. A fall-through that exists has an instruction. A branch's target has an instruction and a know line, whether or not the edge exists.
 abbrev pub obligation_2_target : Parts → Option ℕ → Bool
@@ -53,31 +53,33 @@ obligation_2_target image None = true
 obligation_2_target image (Some to) = nat_lt to (length image.instrs) && is_some_sets (known image.knows to)
 
 abbrev pub obligation_2 : Parts → ℕ → Form → Sets → Bool
-obligation_2 image p f s = implies (is_some_sets (fall f s)) (nat_lt (p + 1) (length image.instrs)) && obligation_2_target image (target f)
+obligation_2 image p f sets =
+    implies (is_some_sets (fall f sets)) (nat_lt (p + 1) (length image.instrs)) && obligation_2_target image (target f)
 
 -- 3. A taken edge to its own or an earlier place leads to a `wfq`.
 abbrev pub obligation_3_target : Parts → ℕ → Sets → Form → Option ℕ → Bool
-obligation_3_target image p s f None = true
-obligation_3_target image p s f (Some to) = implies (is_some_sets (jump f s)) (implies (nat_le to p) (is_wait (slice_get image.instrs to)))
+obligation_3_target image p sets f None = true
+obligation_3_target image p sets f (Some to) =
+    implies (is_some_sets (jump f sets)) (implies (nat_le to p) (is_wait (slice_get image.instrs to)))
 
 abbrev pub obligation_3 : Parts → ℕ → Form → Sets → Bool
-obligation_3 image p f s = obligation_3_target image p s f (target f)
+obligation_3 image p f sets = obligation_3_target image p sets f (target f)
 
 -- 4. The mask of each edge, fall-through included, is within the know line at its end, where there is one.
 abbrev pub obligation_4_target : Parts → Sets → Form → Option ℕ → Bool
-obligation_4_target image s f None = true
-obligation_4_target image s f (Some to) = fits_line (jump f s) (known image.knows to)
+obligation_4_target image sets f None = true
+obligation_4_target image sets f (Some to) = fits_line (jump f sets) (known image.knows to)
 
 abbrev pub obligation_4 : Parts → ℕ → Form → Sets → Bool
-obligation_4 image p f s = fits_line (fall f s) (known image.knows (p + 1)) && obligation_4_target image s f (target f)
+obligation_4 image p f sets = fits_line (fall f sets) (known image.knows (p + 1)) && obligation_4_target image sets f (target f)
 
 -- the least obligation that is not met at an instruction, of its sets
 abbrev pub unmet : Parts → ℕ → Form → Sets → Option ℕ
-unmet image p f s =
-    let later = or_later (obligation_4 image p f s) 4 (unmet_here f s) in
-    let later = or_later (obligation_3 image p f s) 3 later in
-    let later = or_later (obligation_2 image p f s) 2 later in
-    or_later (obligation_1 p s) 1 later
+unmet image p f sets =
+    let later = or_later (obligation_4 image p f sets) 4 (unmet_here f sets) in
+    let later = or_later (obligation_3 image p f sets) 3 later in
+    let later = or_later (obligation_2 image p f sets) 2 later in
+    or_later (obligation_1 p sets) 1 later
 
 -- at a place without sets it is the first obligation that is not met
 abbrev pub unmet_of : Parts → ℕ → Option Form → Option Sets → Option ℕ
@@ -97,7 +99,7 @@ Accepted image = (p : ℕ) → p < length image.instrs → unmet_at image p ≡ 
 pub record IsMade (image : Parts) : Type 0 where
   pub some : 0 < length image.instrs
   pub forms : (p : ℕ) (f : Form) → slice_get image.instrs p ≡ Some f → IsInRange f
-  pub knows : (p : ℕ) (s : Sets) → known image.knows p ≡ Some s → any_empty s ≡ false
+  pub knows : (p : ℕ) (sets : Sets) → known image.knows p ≡ Some sets → any_empty sets ≡ false
 
 -- the least instruction at which one is not met, with the least one there
 pub record IsFirstUnmet (image : Parts) (at obligation : ℕ) : Type 0 where

@@ -6,13 +6,14 @@ ghost use Rattle.bk_check.specs.Obligations.{obligation_16, settled, obligation_
 
 use crate::waiting::implies;
 use bk_base::Coh;
-use bk_flow::values::{
-    ACKS_ZERO, DOWN_PAID, DREQ_PAID, HEAD_NONE, KIND_EVICT, KIND_RD, KIND_RD_WR, KIND_UC_RD,
-    KIND_UC_WR, KIND_WR, MEM_ASKED, MEM_GOT, MEM_WRITTEN, OTHERS_NO, OWN_I, OWN_S_F_O, OWNER_F,
-    OWNER_NONE, OWNER_NONE_F, STAGE_CLOSING, VICTIM_LIGHT, WB_DIRTY, WB_IDLE, WHOSE_OWN,
-};
 use bk_flow::{lacks, may, only_debt, only_down};
 use bk_isa::Form;
+use bk_isa::operand::WHOSE_OWN;
+use bk_know::values::{
+    ACKS_ZERO, DOWN_PAID, DREQ_PAID, HEAD_NONE, KIND_EVICT, KIND_RD, KIND_RD_WR, KIND_UC_RD,
+    KIND_UC_WR, KIND_WR, MEM_ASKED, MEM_GOT, MEM_WRITTEN, OTHERS_NO, OWN_I, OWN_S_F_O, OWNER_F,
+    OWNER_NONE, OWNER_NONE_F, STAGE_CLOSING, VICTIM_LIGHT, WB_DIRTY, WB_IDLE,
+};
 use bk_know::{Sets, subset};
 
 /// `ucblk`: kind is UcRd, mem is got. `ucdone`: kind is UcWr, mem is written. `done`: kind is

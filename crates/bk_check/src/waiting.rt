@@ -5,17 +5,20 @@ ghost use Rattle.std.specs.Prelude.{◌≡◌};
 ghost use Rattle.bk_check.specs.Obligations.{implies, single_stage, single_head, obligation_5, awaits, obligation_6, obligation_7, obligation_8, marks, obligation_9, is_summed, may_branch, obligation_10, sends, is_send, may_read, obligation_11, may_flush_own, may_flush_victim, may_flush, obligation_12, obligation_13, obligation_14, obligation_15};
 
 use bk_base::Coh;
-use bk_flow::values::{
-    ACKS_SOME, ACKS_ZERO, CLASS_MEM, CLASS_REQ, CLASS_RESP, CLASS_RESP_REQ, FIELD_GP, FIELD_KIND,
-    FIELD_OTHERS, FIELD_OWN, FIELD_OWNER, FIELD_VICTIM, GP_FREE, GP_PENDING, HEAD_BLOCK,
-    HEAD_COH_ACK, HEAD_INV_ACK, HEAD_NONE, HEAD_NULL_WB, HEAD_REQUEST, HEAD_WB, KIND_RD_WR_UC_RD,
-    KIND_UC_WR, MEM_ASKED, MEM_IDLE, OTHERS_NO, OWN_I, OWN_I_S, OWN_I_S_F, OWNER_NONE,
-    OWNER_NONE_F, PLAIN, STAGE_BLOCKED, STAGE_CLOSING, STAGE_HELD, STAGE_HELD_CLOSING, STAGE_IDLE,
-    SUMM_NO, SUMM_ROW, SUMM_SUM, VICTIM_HEAVY, WB_ASKED, WB_IDLE, WHOSE_OWN, WHOSE_OWNER,
-    WITH_MARK, WITH_OWNER,
-};
 use bk_flow::{lacks, may};
 use bk_isa::Form;
+use bk_isa::operand::{
+    CLASS_MEMORY, CLASS_REQUESTS, CLASS_RESPONSES, CLASS_RESPONSES_REQUESTS, PLAIN, WHOSE_OWN,
+    WHOSE_OWNER, WITH_MARK, WITH_OWNER,
+};
+use bk_know::fields::{FIELD_GP, FIELD_KIND, FIELD_OTHERS, FIELD_OWN, FIELD_OWNER, FIELD_VICTIM};
+use bk_know::values::{
+    ACKS_SOME, ACKS_ZERO, GP_FREE, GP_PENDING, HEAD_BLOCK, HEAD_COH_ACK, HEAD_INV_ACK, HEAD_NONE,
+    HEAD_NULL_WB, HEAD_REQUEST, HEAD_WB, KIND_RD_WR_UC_RD, KIND_UC_WR, MEM_ASKED, MEM_IDLE,
+    OTHERS_NO, OWN_I, OWN_I_S, OWN_I_S_F, OWNER_NONE, OWNER_NONE_F, STAGE_BLOCKED, STAGE_CLOSING,
+    STAGE_HELD, STAGE_HELD_CLOSING, STAGE_IDLE, SUMM_NO, SUMM_ROW, SUMM_SUM, VICTIM_HEAVY,
+    WB_ASKED, WB_IDLE,
+};
 use bk_know::{Sets, subset};
 
 /// Whether the second holds where the first does.
@@ -51,7 +54,7 @@ pub fn obligation_5(form: Form, sets: Sets) -> bool
     match form {
         Form::Wfq { a } => sets.head == HEAD_NONE
             && single_stage(sets.stage)
-            && implies(sets.stage == STAGE_IDLE, a == CLASS_RESP_REQ),
+            && implies(sets.stage == STAGE_IDLE, a == CLASS_RESPONSES_REQUESTS),
         _ => true,
     }
 }
@@ -61,8 +64,8 @@ pub fn obligation_5(form: Form, sets: Sets) -> bool
 fn awaits(classes: u8, sets: Sets) -> bool
     ensures { result ≡ awaits classes sets }
 {
-    may(classes, CLASS_RESP) && (sets.acks == ACKS_SOME || sets.wb == WB_ASKED)
-        || may(classes, CLASS_MEM) && sets.mem == MEM_ASKED
+    may(classes, CLASS_RESPONSES) && (sets.acks == ACKS_SOME || sets.wb == WB_ASKED)
+        || may(classes, CLASS_MEMORY) && sets.mem == MEM_ASKED
 }
 
 /// `wfq` in Blocked names responses alone. In Held it doesn't name requests, and a message of a
@@ -72,10 +75,10 @@ pub fn obligation_6(form: Form, sets: Sets) -> bool
 {
     match form {
         Form::Wfq { a } => {
-            implies(sets.stage == STAGE_BLOCKED, a == CLASS_RESP)
+            implies(sets.stage == STAGE_BLOCKED, a == CLASS_RESPONSES)
                 && implies(
                     sets.stage == STAGE_HELD,
-                    lacks(a, CLASS_REQ) && awaits(a, sets),
+                    lacks(a, CLASS_REQUESTS) && awaits(a, sets),
                 )
         }
         _ => true,

@@ -6,11 +6,11 @@ use Rattle.bk_image.specs.Images as images
 use Rattle.bk_trace.specs.Traces as traces
 use Rattle.bk_trace.specs.Traces.{IsLine}
 use Rattle.bk_lce.specs.declared.line.WayView.{WayView}
-use Rattle.bk_run.specs.declared.runs.ReportedRun.{ReportedRun}
-use Rattle.bk_run.specs.declared.runs.SerialFault.{SerialFault}
-use Rattle.bk_run.specs.declared.runs.SerialFault.TheVariants.{Spent, Memory}
-use Rattle.bk_run.specs.Faults.{IsFault}
-use Rattle.bk_run.specs.Serial.{IsEnded}
+use Rattle.bk_run.specs.declared.serial_runs.ReportedRun.{ReportedRun}
+use Rattle.bk_run.specs.declared.serial_runs.SerialFault.{SerialFault}
+use Rattle.bk_run.specs.declared.serial_runs.SerialFault.TheVariants.{Spent, Memory}
+use Rattle.bk_run.specs.Jobs.{job_of}
+use Rattle.bk_run.specs.Serial.{IsEnded, IsFault}
 use Rattle.bk_run.proofs.Lawful.{greedy_from-lawful}
 use Rattle.bk_system.specs.State.{opening}
 use Rattle.bk_coherent.specs.Coherent.{StaysCoherent}
@@ -20,33 +20,34 @@ use Rattle.bk_system.specs.declared.event.Event.{Event}
 use Rattle.bk_run.specs.Report.{IsReport}
 use Rattle.bk_cmd.specs.declared.outcome.Outcome.{Outcome}
 use Rattle.bk_cmd.specs.declared.words.Output.{Output}
-use Rattle.bk_cmd.specs.Replays.{budget_for, RunEnds, IsRunFault, log_due, IsDue, Reported, ReportedPart}
+use Rattle.bk_cmd.specs.Replays.{budget_for, job_for, RunEnds, IsRunFault, log_due, IsDue, Reported, ReportedPart}
 use Rattle.bk_cmd.specs.Writes.{Wrote, WrotePart}
 
 pub fault-of : (policy : List WayView → ℕ → Type 0) (image : images.Parts) (trace : traces.Parts) (fault : SerialFault)
-    → IsFault policy trace.config image.instrs trace.lines (budget_for image trace) fault → IsRunFault policy image trace fault
+    → IsFault (job_for policy image trace) fault → IsRunFault policy image trace fault
 fault-of policy image trace (Spent end) h = inr (end.complete, h)
 fault-of policy image trace Memory h = tt
 
 -- What a run's call says of an image that is handed to it (`given`, which is the replay's) is so of the replay's image.
-module _ (policy : List WayView → ℕ → Type 0) (given image : images.Parts) (trace : traces.Parts) (budget : ℕ) (is : given ≡ image)
+module _ (policy : List WayView → ℕ → Type 0) (given image : images.Parts) (trace : traces.Parts) (budget : ℕ)
+    (is : given ≡ image)
     (same : budget ≡ budget_for image trace)
   where
-    pub fault-told : (result : Result ReportedRun SerialFault) → IfErr result (IsFault policy trace.config given.instrs trace.lines budget)
+    pub fault-told : (result : Result ReportedRun SerialFault) → IfErr result (IsFault (job_of policy given.instrs trace budget))
         → IfErr result (IsRunFault policy image trace)
     fault-told (Ok run) h = tt
     fault-told (Err fault) h =
         fault-of policy image trace fault
-        (subst (λ (p : images.Parts). IsFault policy trace.config p.instrs trace.lines (budget_for image trace) fault) is
-        (subst (λ (b : ℕ). IsFault policy trace.config given.instrs trace.lines b fault) same h))
+        (subst (λ (p : images.Parts). IsFault (job_of policy p.instrs trace (budget_for image trace)) fault) is
+        (subst (λ (b : ℕ). IsFault (job_of policy given.instrs trace b) fault) same h))
 
     pub end-told : (result : Result ReportedRun SerialFault)
-        → IfOk result (λ run. IsEnded policy trace.config given.instrs trace.lines budget run.end.events.items run.end.complete)
+        → IfOk result (λ run. IsEnded (job_of policy given.instrs trace budget) run.end.events.items run.end.complete)
         → IfOk result (λ run. RunEnds policy image trace run.end.events.items run.end.complete)
     end-told (Ok run) h =
-        subst (λ (p : images.Parts). IsEnded policy trace.config p.instrs trace.lines (budget_for image trace) run.end.events.items
+        subst (λ (p : images.Parts). IsEnded (job_of policy p.instrs trace (budget_for image trace)) run.end.events.items
         run.end.complete) is
-        (subst (λ (b : ℕ). IsEnded policy trace.config given.instrs trace.lines b run.end.events.items run.end.complete) same h)
+        (subst (λ (b : ℕ). IsEnded (job_of policy given.instrs trace b) run.end.events.items run.end.complete) same h)
     end-told (Err fault) h = tt
 
     pub report-told : (result : Result ReportedRun SerialFault)
@@ -64,8 +65,7 @@ pub run-coherent : (policy : List WayView → ℕ → Type 0) (image : images.Pa
     → IfOk result (λ run. StaysCoherent trace.config image.instrs run.end.events.items)
 run-coherent policy image trace (Ok run) sound profile lines h =
     stays-coherent trace.config image.instrs run.end.events.items sound profile
-    (greedy_from-lawful policy trace.config.caches trace.config image.instrs trace.lines (opening trace.config) run.end.events.items lines
-    h.made.greedy)
+    (greedy_from-lawful (job_for policy image trace) trace.config.caches (opening trace.config) run.end.events.items lines h.made.greedy)
 run-coherent policy image trace (Err fault) sound profile lines h = tt
 
 -- what is due of a run that was complete, where the sink took all of it and where it took a part

@@ -57,7 +57,8 @@ moesif_rests : is_rested two_caches moesif.instrs (run two_caches moesif.instrs 
 unfolding moesif_events lines two_caches put digits
 moesif_rests = refl
 
-moesif_reports : report_text two_caches (run two_caches moesif.instrs moesif_events) (counts_of two_caches moesif.instrs moesif_events) true ≡
+moesif_reports : report_text two_caches (run two_caches moesif.instrs moesif_events)
+    (counts_of two_caches moesif.instrs moesif_events) true ≡
     codes "0 L 0x0 = 0\n"
     ++ codes "0 S 0x0 5\n"
     ++ codes "1 L 0x0 = 5\n"

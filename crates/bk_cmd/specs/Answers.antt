@@ -4,8 +4,9 @@ use Rattle.bk_image.specs.Faults.{Bad}
 use Rattle.bk_image.specs.Images.{Parts}
 use Rattle.bk_image.specs.Reading.{image_at}
 use Rattle.bk_image.specs.Spelling as images
-use Rattle.bk_asm.specs.Faults as asm_faults
+use Rattle.bk_text.specs.Faults as text_faults
 use Rattle.bk_asm.specs.Reading as asm
+use Rattle.bk_asm.specs.Spelled.{Spells}
 use Rattle.bk_asm.specs.Writing as texts
 use Rattle.bk_cmd.specs.declared.words.Question.{Question}
 use Rattle.bk_cmd.specs.declared.words.Question.TheVariants.{Verdict, Assembly, Disassembly}
@@ -38,11 +39,11 @@ VerdictOn (Err bad) (Due text) = ⊥
 VerdictOn (Err bad) (Refuses at obligation) = ⊥
 VerdictOn (Err bad) (Fault at column kind) = (bad ≡ bad_at at kind) × (column ≡ 0)
 
--- the bytes of the image that a text spells, or the text's first fault
-abbrev pub AssemblyOf : Result Parts asm_faults.Bad → Answer → Type 0
-AssemblyOf (Ok image) (Due text) = text ≡ images.spelling image
-AssemblyOf (Err bad) (Fault at column kind) = bad ≡ record { line = at; column = column; kind = kind }
-AssemblyOf _ _ = ⊥
+-- the bytes of the image that a text spells, or, where it is read as none, its first fault
+abbrev pub AssemblyOf : List ℕ → Result Parts text_faults.Bad → Answer → Type 0
+AssemblyOf bytes (Ok image) (Due text) = Spells bytes image × (text ≡ images.spelling image)
+AssemblyOf bytes (Err bad) (Fault at column kind) = bad ≡ record { line = at; column = column; kind = kind }
+AssemblyOf bytes _ _ = ⊥
 
 -- the canonical text of an image, or the first fault of bytes that are none
 abbrev pub DisassemblyOf : Result Parts Bad → Answer → Type 0
@@ -53,7 +54,7 @@ DisassemblyOf _ _ = ⊥
 -- what `verify`, `asm` and `dis` say of a file's bytes
 abbrev pub SaysOf : Question → List ℕ → Answer → Type 0
 SaysOf Verdict bytes answer = VerdictOn (image_at bytes) answer
-SaysOf Assembly bytes answer = AssemblyOf (asm.image_at bytes) answer
+SaysOf Assembly bytes answer = AssemblyOf bytes (asm.image_at bytes) answer
 SaysOf Disassembly bytes answer = DisassemblyOf (image_at bytes) answer
 
 -- what `gen` says: the canonical text of the drawn trace

@@ -1,11 +1,13 @@
 -- The files of a command, and what they hold.
-use Rattle.std.specs.Prelude.{◌≡◌, ℕ, List, Option, Some, Result, Ok, IfSome}
+use Rattle.std.specs.Prelude.{◌≡◌, ℕ, List, Option, Some, Err, IfSome}
 use Rattle.bk_image.specs.Faults.{Bad}
 use Rattle.bk_image.specs.Images as images
 use Rattle.bk_image.specs.Reading.{image_at}
+use Rattle.bk_image.specs.Spelling.{IsImage, spelling}
 use Rattle.bk_check.specs.Accepted.{Accepted}
 use Rattle.bk_trace.specs.Traces as traces
-use Rattle.bk_trace.specs.Faults as trace_faults
+use Rattle.bk_text.specs.Faults as text_faults
+use Rattle.bk_trace.specs.Grammar.{trace_of}
 use Rattle.bk_trace.specs.Reading.{trace_at}
 
 -- What a shelf has under each name, where it tells.
@@ -18,17 +20,25 @@ pub record FileHolds (files : Files) (name : List ℕ) (Holds : List ℕ → Typ
   pub found : IfSome files (λ at. at name ≡ Some bytes)
   pub holds : Holds bytes
 
--- the file reads so as an image
-abbrev pub ImageIs : Files → List ℕ → Result images.Parts Bad → Type 0
-ImageIs files name answer = FileHolds files name (λ bytes. image_at bytes ≡ answer)
+-- The file is the spelling of this image. Each image has one spelling, and no two have the same.
+abbrev pub HasImage : Files → List ℕ → images.Parts → Type 0
+HasImage files name image = FileHolds files name (λ bytes. IsImage image × (bytes ≡ spelling image))
 
--- the file reads so as a trace
-abbrev pub TraceIs : Files → List ℕ → Result traces.Parts trace_faults.Bad → Type 0
-TraceIs files name answer = FileHolds files name (λ bytes. trace_at bytes ≡ answer)
+-- The file is a text of the grammar of traces, and spells this trace.
+abbrev pub HasTrace : Files → List ℕ → traces.Parts → Type 0
+HasTrace files name trace = FileHolds files name (λ text. trace_of text ≡ Some trace)
+
+-- This is the first fault of an image.
+abbrev pub HasImageFault : Files → List ℕ → Bad → Type 0
+HasImageFault files name fault = FileHolds files name (λ bytes. image_at bytes ≡ Err fault)
+
+-- This is the first fault of a trace.
+abbrev pub HasTraceFault : Files → List ℕ → text_faults.Bad → Type 0
+HasTraceFault files name fault = FileHolds files name (λ text. trace_at text ≡ Err fault)
 
 -- a trace is read only after an image that is accepted
 pub record AfterImage (files : Files) (name : List ℕ) (Next : Type 0) : Type 0 where
   pub image : images.Parts
-  pub image_is : ImageIs files name (Ok image)
+  pub has_image : HasImage files name image
   pub accepted : Accepted image
   pub next : Next

@@ -1,5 +1,5 @@
 -- How a replay ends, once its files are read. The policy is the relation between the views of a set and the way of a victim.
-use Rattle.std.specs.Prelude.{◌≡◌, ℕ, ◌⊎◌, List, [], ◌++◌, length, Bool, true, false, Option, Ok}
+use Rattle.std.specs.Prelude.{◌≡◌, ℕ, ◌⊎◌, List, [], ◌++◌, length, Bool, true, false, Option}
 use Rattle.bk_image.specs.Images as images
 use Rattle.bk_check.specs.Accepted.{Accepted}
 use Rattle.bk_trace.specs.Traces as traces
@@ -7,37 +7,41 @@ use Rattle.bk_lce.specs.declared.line.WayView.{WayView}
 use Rattle.bk_system.specs.declared.event.Event.{Event}
 use Rattle.bk_coherent.specs.Coherent.{StaysCoherent}
 use Rattle.bk_run.specs.Greedy.{budget_of}
+use Rattle.bk_run.specs.Jobs.{Job, job_of}
 use Rattle.bk_run.specs.Serial.{IsEnded, IsSpent}
 use Rattle.bk_run.specs.Report.{IsReport}
-use Rattle.bk_run.specs.declared.runs.SerialFault.{SerialFault}
-use Rattle.bk_run.specs.declared.runs.SerialFault.TheVariants.{Spent, Memory}
+use Rattle.bk_run.specs.declared.serial_runs.SerialFault.{SerialFault}
+use Rattle.bk_run.specs.declared.serial_runs.SerialFault.TheVariants.{Spent, Memory}
 use Rattle.bk_cmd.specs.declared.outcome.Outcome.{Outcome}
-use Rattle.bk_log.specs.Log.{log_of}
+use Rattle.bk_run.specs.Log.{log_of}
 use Rattle.bk_cmd.specs.declared.words.Output.{Output}
 use Rattle.bk_cmd.specs.declared.words.Output.TheVariants.{Report, LogAndReport}
-use Rattle.bk_cmd.specs.Inputs.{Files, ImageIs, TraceIs}
+use Rattle.bk_cmd.specs.Inputs.{Files, HasImage, HasTrace}
 use Rattle.bk_cmd.specs.Writes.{Wrote, WrotePart}
 
 -- The files are an image that is accepted, and a trace; and of these something holds.
 pub record OfInputs (files : Files) (image_name trace_name : List ℕ) (Holds : images.Parts → traces.Parts → Type 0) : Type 0 where
   pub image : images.Parts
   pub trace : traces.Parts
-  pub image_is : ImageIs files image_name (Ok image)
+  pub has_image : HasImage files image_name image
   pub accepted : Accepted image
-  pub trace_is : TraceIs files trace_name (Ok trace)
+  pub has_trace : HasTrace files trace_name trace
   pub holds : Holds image trace
 
 abbrev pub budget_for : images.Parts → traces.Parts → ℕ
 budget_for image trace = budget_of trace.config (length image.instrs) (length trace.lines)
 
+-- the job of a replay
+abbrev pub job_for : (List WayView → ℕ → Type 0) → images.Parts → traces.Parts → Job
+job_for policy image trace = job_of policy image.instrs trace (budget_for image trace)
+
 -- the greedy run came to its end, complete or not
 abbrev pub RunEnds : (List WayView → ℕ → Type 0) → images.Parts → traces.Parts → List Event → Bool → Type 0
-RunEnds policy image trace events complete = IsEnded policy trace.config image.instrs trace.lines (budget_for image trace) events complete
+RunEnds policy image trace events complete = IsEnded (job_for policy image trace) events complete
 
 -- the greedy run used its budget up
 abbrev pub RunIsSpent : (List WayView → ℕ → Type 0) → images.Parts → traces.Parts → List Event → Bool → Type 0
-RunIsSpent policy image trace events complete =
-    IsSpent policy trace.config image.instrs trace.lines (budget_for image trace) events complete
+RunIsSpent policy image trace events complete = IsSpent (job_for policy image trace) events complete
 
 -- the run ended without doing all of the trace, or used its budget up
 abbrev pub EndsShort : (List WayView → ℕ → Type 0) → images.Parts → traces.Parts → List Event → Type 0
@@ -74,7 +78,8 @@ pub record Reported (policy : List WayView → ℕ → Type 0) (output : Output)
   pub wrote : Wrote text o before after
 
 -- The same, and not all that is due of it was taken.
-pub record ReportedPart (policy : List WayView → ℕ → Type 0) (output : Output) (image : images.Parts) (trace : traces.Parts) (o : Outcome)
+pub record ReportedPart (policy : List WayView → ℕ → Type 0) (output : Output) (image : images.Parts) (trace : traces.Parts)
+    (o : Outcome)
     (before after : Option (List ℕ)) : Type 0 where
   pub ended : RunEnds policy image trace o.events.items true
   pub coherent : StaysCoherent trace.config image.instrs o.events.items

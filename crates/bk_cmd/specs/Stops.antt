@@ -5,10 +5,10 @@ use Rattle.bk_outer.specs.declared.shelf.TheConstants.{FILE_LIMIT}
 use Rattle.bk_image.specs.Faults as faults
 use Rattle.bk_image.specs.Images as images
 use Rattle.bk_image.specs.Reading.{image_at}
-use Rattle.bk_trace.specs.Faults as trace_faults
+use Rattle.bk_text.specs.Faults as text_faults
 use Rattle.bk_trace.specs.Traces as traces
 use Rattle.bk_cmd.specs.Answers.{Answer, Due, Refuses, Fault, bad_at, VerdictOn, SaysOf, drawn_text}
-use Rattle.bk_cmd.specs.Inputs.{Files, FileHolds, ImageIs, TraceIs, AfterImage}
+use Rattle.bk_cmd.specs.Inputs.{Files, FileHolds, HasImageFault, HasTraceFault, AfterImage}
 use Rattle.bk_cmd.specs.Words.{Command, OfFile, Source, Generate, Replay, file_of}
 use Rattle.bk_cmd.specs.declared.outcome.Unread as unread
 use Rattle.bk_cmd.specs.declared.outcome.Unread.TheVariants.{Absent, Failed, TooLong}
@@ -16,7 +16,7 @@ use Rattle.bk_cmd.specs.declared.outcome.Stop.{Stop}
 use Rattle.bk_cmd.specs.declared.outcome.Stop.TheVariants.{Memory, Usage, Unread, Bad, Refused}
 
 -- a fault of a text, in a line and a column
-abbrev pub bad_in : ℕ → ℕ → ℕ → trace_faults.Bad
+abbrev pub bad_in : ℕ → ℕ → ℕ → text_faults.Bad
 bad_in line column kind = record { line = line; column = column; kind = kind }
 
 -- ---- what a reader of bytes answers
@@ -29,7 +29,7 @@ GivesImage (Err (Bad file at column kind)) read = (file ≡ 1) × (column ≡ 0)
 GivesImage (Err _) read = ⊥
 
 -- the bytes of a trace read so, or memory ran out
-abbrev pub GivesTrace : Result traces.Parts Stop → Result traces.Parts trace_faults.Bad → Type 0
+abbrev pub GivesTrace : Result traces.Parts Stop → Result traces.Parts text_faults.Bad → Type 0
 GivesTrace (Ok trace) read = read ≡ Ok trace
 GivesTrace (Err Memory) read = Unit {0}
 GivesTrace (Err (Bad file at column kind)) read = (file ≡ 2) × (read ≡ Err (bad_in at column kind))
@@ -65,7 +65,7 @@ ImageIsRefused files name at obligation = FileHolds files name (λ bytes. Verdic
 abbrev pub IsImageStop : Files → List ℕ → Type 0 → Type 0 → Stop → Type 0
 IsImageStop files name failed missed Memory = Unit {0}
 IsImageStop files name failed missed (Unread file cause) = (file ≡ 1) × IsUnread files name failed missed cause
-IsImageStop files name failed missed (Bad file at column kind) = (file ≡ 1) × (column ≡ 0) × ImageIs files name (Err (bad_at at kind))
+IsImageStop files name failed missed (Bad file at column kind) = (file ≡ 1) × (column ≡ 0) × HasImageFault files name (bad_at at kind)
 IsImageStop files name failed missed (Refused refusal) = ImageIsRefused files name refusal.at refusal.obligation
 IsImageStop files name failed missed _ = ⊥
 
@@ -73,7 +73,7 @@ IsImageStop files name failed missed _ = ⊥
 abbrev pub IsTraceStop : Files → List ℕ → Type 0 → Type 0 → Stop → Type 0
 IsTraceStop files name failed missed Memory = Unit {0}
 IsTraceStop files name failed missed (Unread file cause) = (file ≡ 2) × IsUnread files name failed missed cause
-IsTraceStop files name failed missed (Bad file at column kind) = (file ≡ 2) × TraceIs files name (Err (bad_in at column kind))
+IsTraceStop files name failed missed (Bad file at column kind) = (file ≡ 2) × HasTraceFault files name (bad_in at column kind)
 IsTraceStop files name failed missed _ = ⊥
 
 -- ---- commands
@@ -100,8 +100,8 @@ IsRefused files command at obligation = Says files command (Refuses at obligatio
 -- the first fault of the image; or that of the trace, after an image that is accepted
 abbrev pub IsBadInput : Files → List ℕ → List ℕ → ℕ → ℕ → ℕ → ℕ → Type 0
 IsBadInput files image trace file at column kind =
-    ((file ≡ 1) × (column ≡ 0) × ImageIs files image (Err (bad_at at kind)))
-    ⊎ ((file ≡ 2) × AfterImage files image (TraceIs files trace (Err (bad_in at column kind))))
+    ((file ≡ 1) × (column ≡ 0) × HasImageFault files image (bad_at at kind))
+    ⊎ ((file ≡ 2) × AfterImage files image (HasTraceFault files trace (bad_in at column kind)))
 
 -- the file of this number has this fault
 abbrev pub IsBad : Files → Command → ℕ → ℕ → ℕ → ℕ → Type 0

@@ -3,9 +3,11 @@
 ghost use Rattle.std.specs.Prelude.{◌≡◌, ◌≤◌, ◌-◌, ◌^◌, Ok, Some, IfOk, IfErr, IfSome};
 ghost use Rattle.bk_outer.specs.Counts.{Rose};
 ghost use Rattle.bk_image.specs.Reading.{image_at};
+ghost use Rattle.bk_image.specs.Spelling.{IsImage, spelling};
 ghost use Rattle.bk_check.specs.Accepted.{Accepted};
+ghost use Rattle.bk_trace.specs.Grammar.{trace_of};
 ghost use Rattle.bk_trace.specs.Reading.{trace_at};
-ghost use Rattle.bk_cmd.specs.Inputs.{ImageIs, TraceIs};
+ghost use Rattle.bk_cmd.specs.Inputs.{HasImage, HasTrace};
 ghost use Rattle.bk_cmd.specs.Stops.{GivesImage, GivesTrace, IsReadStop, IsImageStop, IsTraceStop, IsStop};
 ghost use Rattle.bk_cmd.specs.Words.{Replay};
 
@@ -32,7 +34,8 @@ pub(crate) struct Inputs {
 
 /// The image of these bytes, of the first file.
 pub(crate) fn image_in(alloc: Global, bytes: &[u8]) -> Result<Image, Stop>
-    ensures { GivesImage result (image_at bytes.now) }
+    ensures read { GivesImage result (image_at bytes.now) }
+    ensures spelled { IfOk result (λ image. IsImage image × (bytes.now ≡ spelling image)) }
 {
     match read_image(alloc, bytes) {
         Ok(image) => Ok(image),
@@ -48,7 +51,8 @@ pub(crate) fn image_in(alloc: Global, bytes: &[u8]) -> Result<Image, Stop>
 
 /// The trace of this text, of the second file.
 fn trace_in(alloc: Global, text: &[u8]) -> Result<Trace, Stop>
-    ensures { GivesTrace result (trace_at text.now) }
+    ensures read { GivesTrace result (trace_at text.now) }
+    ensures spelled { IfOk result (λ trace. trace_of text.now ≡ Some trace) }
 {
     match read_trace(alloc, text) {
         Ok(trace) => Ok(trace),
@@ -98,7 +102,7 @@ pub(crate) fn bytes_of<H: Shelf>(
 
 /// Reads the image of a replay, which is run only where it is accepted.
 fn certified_of<H: Shelf>(alloc: Global, shelf: &mut H, name: &str) -> Result<Certified, Stop>
-    ensures ok { IfOk result (λ image. ImageIs (H.files shelf.old) name.now (Ok image)) }
+    ensures ok { IfOk result (λ image. HasImage (H.files shelf.old) name.now image) }
     ensures accepted { IfOk result (λ image. Accepted image) }
     ensures err { IfErr result (IsImageStop (H.files shelf.old) name.now
         (Rose (H.faults shelf.old) (H.faults shelf.new)) (Rose (H.misses shelf.old) (H.misses shelf.new))) }
@@ -126,7 +130,7 @@ fn certified_of<H: Shelf>(alloc: Global, shelf: &mut H, name: &str) -> Result<Ce
 
 /// Reads the trace of a replay.
 fn trace_of<H: Shelf>(alloc: Global, shelf: &mut H, name: &str) -> Result<Trace, Stop>
-    ensures ok { IfOk result (λ trace. TraceIs (H.files shelf.old) name.now (Ok trace)) }
+    ensures ok { IfOk result (λ trace. HasTrace (H.files shelf.old) name.now trace) }
     ensures err { IfErr result (IsTraceStop (H.files shelf.old) name.now
         (Rose (H.faults shelf.old) (H.faults shelf.new)) (Rose (H.misses shelf.old) (H.misses shelf.new))) }
     ensures same_files { H.files shelf.new ≡ H.files shelf.old }
@@ -150,9 +154,9 @@ pub(crate) fn inputs_of<H: Shelf>(
     trace_name: &str,
 ) -> Result<Inputs, Stop>
     ensures output { IfOk result (λ i. i.output ≡ output) }
-    ensures image { IfOk result (λ i. ImageIs (H.files shelf.old) image_name.now (Ok i.image)) }
+    ensures image { IfOk result (λ i. HasImage (H.files shelf.old) image_name.now i.image) }
     ensures accepted { IfOk result (λ i. Accepted i.image) }
-    ensures trace { IfOk result (λ i. TraceIs (H.files shelf.old) trace_name.now (Ok i.trace)) }
+    ensures trace { IfOk result (λ i. HasTrace (H.files shelf.old) trace_name.now i.trace) }
     ensures stop { IfErr result (IsStop (H.files shelf.old) (Replay output image_name.now trace_name.now)
         (Rose (H.faults shelf.old) (H.faults shelf.new)) (Rose (H.misses shelf.old) (H.misses shelf.new))) }
     ensures same_files { H.files shelf.new ≡ H.files shelf.old }

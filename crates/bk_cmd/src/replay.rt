@@ -2,7 +2,7 @@
 
 ghost use Rattle.std.specs.Prelude.{◌≡◌, ◌≤◌, ◌<◌, ◌⊎◌, ◌++◌, [], true, false, IfOk, IfErr, IsTrue};
 ghost use Rattle.std.specs.Fn.{FnReturnsAt};
-ghost use Rattle.bk_lce.specs.Asked.{IsPolicy};
+ghost use Rattle.bk_lce.specs.Policies.{IsPolicy};
 ghost use Rattle.bk_coherent.specs.Coherent.{StaysCoherent};
 ghost use Rattle.bk_outer.specs.Counts.{Rose};
 ghost use Rattle.bk_cmd.specs.Outcomes.{LeavesRest, is_after_run, is_after_write};
@@ -14,9 +14,8 @@ use crate::outcome::{MEMORY, OK, Outcome, SPENT, Stop, WRITE_FAULT, ended, stopp
 use crate::words::Output;
 use crate::writing::deliver;
 use bk_lce::{Victim, WayView};
-use bk_log::log;
 use bk_outer::Sink;
-use bk_run::{ReportedRun, SerialFault, budget, serial_report};
+use bk_run::{ReportedRun, SerialFault, budget, log, serial_report};
 use bk_system::Event;
 use std::alloc::{AllocError, Global};
 
@@ -40,7 +39,8 @@ fn write_texts<K: Sink, F: Fn(&[WayView]) -> u8 + Copy + Send>(
 ) -> Outcome
     requires ended { RunEnds (FnReturnsAt F.Fn victim.now.pick) inputs.now.image inputs.now.trace run.end.events.items true }
     requires coherent { StaysCoherent inputs.now.trace.config inputs.now.image.instrs run.end.events.items }
-    requires report { IsReport inputs.now.trace.config inputs.now.image.instrs inputs.now.trace.lines run.end.events.items run.report.items }
+    requires report { IsReport inputs.now.trace.config inputs.now.image.instrs inputs.now.trace.lines run.end.events.items
+        run.report.items }
     ensures ok { result.status ≡ OK →
         Reported (FnReturnsAt F.Fn victim.now.pick) inputs.now.output inputs.now.image inputs.now.trace result (K.taken sink.old)
         (K.taken sink.new) }

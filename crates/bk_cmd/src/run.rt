@@ -2,7 +2,7 @@
 
 ghost use Rattle.std.specs.Prelude.{◌≡◌, ◌≤◌, ◌<◌, ◌⊎◌, ◌↔◌, None, true, false, IsTrue};
 ghost use Rattle.std.specs.Fn.{FnReturnsAt};
-ghost use Rattle.bk_lce.specs.Asked.{IsPolicy};
+ghost use Rattle.bk_lce.specs.Policies.{IsPolicy};
 ghost use Rattle.bk_outer.specs.Counts.{Rose};
 ghost use Rattle.bk_cmd.specs.Ends.{OfCommand, EndsWhole, EndsInPart, EndsRefused, EndsBad, EndsSpent, TellsEvents};
 ghost use Rattle.bk_cmd.specs.Outcomes.{LeavesRest, is_status, is_after_write, is_limit};

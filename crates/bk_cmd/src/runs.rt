@@ -2,15 +2,14 @@
 
 use super::tests::{NOP, asked, shelf as shelf_of, words, words_of};
 use super::*;
-use crate::programs::{EI, MESI, MOESIF, UNCACHED};
+use crate::programs::image_named;
 use bk_base::Op;
 use bk_check::Refusal;
 use bk_engine::Choice;
 use bk_image::{read_image, write_image};
 use bk_lce::{Victim, WayView, oldest};
-use bk_log::log;
 use bk_outer::MemSink;
-use bk_run::{RunEnd, budget, report, serial};
+use bk_run::{RunEnd, budget, log, report, serial};
 use bk_sound::certify;
 use bk_system::Event;
 use bk_trace::read_trace;
@@ -46,7 +45,7 @@ fn report_of_drawn(alloc: Global, image: &[u8], numbers: &[&str; 5]) -> Result<V
 
 #[test]
 fn a_drawn_run_of_ei_comes_to_rest(rt: HostRuntime) -> Result<(), Fail> {
-    let report = report_of_drawn(rt.alloc(), &EI, &FEW)?;
+    let report = report_of_drawn(rt.alloc(), &image_named(rt.alloc(), "ei")?, &FEW)?;
     assert!(rt; report.ends_with("end rested\n".as_bytes()));
     Ok(())
 }
@@ -80,12 +79,12 @@ fn report_of(alloc: Global, image: &[u8], trace: &[u8], events: &[Event]) -> Res
 #[test]
 fn the_report_of_a_large_run_is_that_of_its_events(rt: HostRuntime) -> Result<(), Fail> {
     let alloc = rt.alloc();
-    let first = report_of_drawn(alloc, &MOESIF, &MANY)?;
+    let first = report_of_drawn(alloc, &image_named(alloc, "moesif")?, &MANY)?;
     assert!(rt; first.ends_with("end rested\n".as_bytes()));
     let trace = drawn(alloc, &MANY)?;
-    let end = end_of(alloc, &MOESIF, &trace)?;
-    assert!(rt; first == report_of(alloc, &MOESIF, &trace, &end.events)?);
-    let none = report_of(alloc, &MOESIF, &trace, &[])?;
+    let end = end_of(alloc, &image_named(alloc, "moesif")?, &trace)?;
+    assert!(rt; first == report_of(alloc, &image_named(alloc, "moesif")?, &trace, &end.events)?);
+    let none = report_of(alloc, &image_named(alloc, "moesif")?, &trace, &[])?;
     assert!(rt; none.ends_with("end unrested\n".as_bytes()));
     Ok(())
 }
@@ -95,7 +94,7 @@ fn the_report_of_a_large_run_is_that_of_its_events(rt: HostRuntime) -> Result<()
 fn an_image_that_is_refused_can_be_run(rt: HostRuntime) -> Result<(), Fail> {
     let alloc = rt.alloc();
     let trace = "config 2 4 2\n0 US 0x40 7\n1 UL 0x40\n".as_bytes();
-    let end = end_of(alloc, &UNCACHED, trace)?;
+    let end = end_of(alloc, &image_named(alloc, "uc")?, trace)?;
     assert!(rt; end.complete);
     assert_eq!(rt; end.events.len(), 37);
     let text = "\
@@ -105,7 +104,7 @@ events issue 2 command 2 fill 0 memory 2 engine 31
 messages request 2 command 2 fill 0 response 2 memout 2 memin 1
 end rested
 ";
-    let report = report_of(alloc, &UNCACHED, trace, &end.events)?;
+    let report = report_of(alloc, &image_named(alloc, "uc")?, trace, &end.events)?;
     assert!(rt; report.as_slice() == text.as_bytes());
     // Behind one `nop` the engine is stuck.
     let stuck = end_of(alloc, &NOP, "config 1 1 1".as_bytes())?;
@@ -117,11 +116,13 @@ end rested
 #[test]
 fn an_image_is_handed_on_or_back(rt: HostRuntime) -> Result<(), Fail> {
     let alloc = rt.alloc();
-    match certify(read_image(alloc, &MESI)?) {
-        Ok(certified) => assert!(rt; write_image(alloc, certified.image())? == MESI.to_vec(alloc)?),
+    match certify(read_image(alloc, &image_named(alloc, "mesi")?)?) {
+        Ok(certified) => assert!(rt;
+            write_image(alloc, certified.image())? == image_named(alloc, "mesi")?
+        ),
         Err(_) => return Err(Fail::from("mesi is refused")),
     }
-    match certify(read_image(alloc, &UNCACHED)?) {
+    match certify(read_image(alloc, &image_named(alloc, "uc")?)?) {
         Ok(_) => return Err(Fail::from("an image without know lines is accepted")),
         Err(refused) => {
             assert_eq!(rt;
@@ -131,7 +132,7 @@ fn an_image_is_handed_on_or_back(rt: HostRuntime) -> Result<(), Fail> {
                     obligation: 1
                 }
             );
-            assert!(rt; write_image(alloc, &refused.image)? == UNCACHED.to_vec(alloc)?);
+            assert!(rt; write_image(alloc, &refused.image)? == image_named(alloc, "uc")?);
         }
     }
     Ok(())
@@ -170,7 +171,7 @@ fn push_issue(events: &mut Vec<Event>, cache: u8, op: &Op, sweeps: u32) -> Resul
 /// The log and the report of a list of events under `mesi`: both caches load block 0, and then each is given the operation
 /// of the trace that follows, both before the engine has taken a request.
 fn after_two_loads(alloc: Global, text: &str) -> Result<(Vec<u8>, Vec<u8>), Fail> {
-    let image = read_image(alloc, &MESI)?;
+    let image = read_image(alloc, &image_named(alloc, "mesi")?)?;
     let trace = read_trace(alloc, text.as_bytes())?;
     let mut events = Vec::new(alloc);
     for (cache, number, sweeps) in [(0, 0, 20), (1, 0, 20), (0, 1, 0), (1, 1, 40)] {

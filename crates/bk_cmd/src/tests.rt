@@ -1,5 +1,5 @@
 use super::*;
-use crate::programs::{MESI, UNCACHED};
+use crate::programs::image_named;
 use bk_lce::{Victim, WayView, oldest};
 use bk_outer::{MemShelf, MemSink};
 use std::alloc::Global;
@@ -100,7 +100,12 @@ pub(crate) fn numbers(outcome: &Outcome) -> [u64; 6] {
 fn an_image_that_is_refused_is_not_replayed(rt: HostRuntime) -> Result<(), Fail> {
     let alloc = rt.alloc();
     for mode in ["serial", "log"] {
-        let mut shelf = shelf(alloc, &UNCACHED, TWO_OPERATIONS, vec![in alloc; 2]?)?;
+        let mut shelf = shelf(
+            alloc,
+            &image_named(alloc, "uc")?,
+            TWO_OPERATIONS,
+            vec![in alloc; 2]?,
+        )?;
         let mut sink = sink(alloc);
         let words = words_of(alloc, &["replay", mode, "a.bk", "b.trace"])?;
         let outcome = asked(alloc, &words, &mut shelf, &mut sink);
@@ -115,7 +120,12 @@ fn an_image_that_is_refused_is_not_replayed(rt: HostRuntime) -> Result<(), Fail>
 #[test]
 fn a_log(rt: HostRuntime) -> Result<(), Fail> {
     let alloc = rt.alloc();
-    let mut shelf = shelf(alloc, &MESI, TWO_OPERATIONS, Vec::new(alloc))?;
+    let mut shelf = shelf(
+        alloc,
+        &image_named(alloc, "mesi")?,
+        TWO_OPERATIONS,
+        Vec::new(alloc),
+    )?;
     let mut sink = sink(alloc);
     let words = words_of(alloc, &["replay", "log", "a.bk", "b.trace"])?;
     let outcome = asked(alloc, &words, &mut shelf, &mut sink);
@@ -138,7 +148,7 @@ fn faults_of_a_trace(rt: HostRuntime) -> Result<(), Fail> {
         ("config 2 4 2\n0 UL 0x40 7", 2, 11, 46),
     ];
     for (trace, line, column, kind) in cases {
-        let mut shelf = shelf(alloc, &MESI, trace, Vec::new(alloc))?;
+        let mut shelf = shelf(alloc, &image_named(alloc, "mesi")?, trace, Vec::new(alloc))?;
         let mut sink = sink(alloc);
         let outcome = asked(alloc, &words(alloc)?, &mut shelf, &mut sink);
         assert_eq!(rt;
@@ -156,7 +166,7 @@ fn too_many_operations(rt: HostRuntime) -> Result<(), Fail> {
     for _ in 0..10_001 {
         trace.push_str("0 UL 0x0\n")?;
     }
-    let mut shelf = shelf(alloc, &MESI, &trace, Vec::new(alloc))?;
+    let mut shelf = shelf(alloc, &image_named(alloc, "mesi")?, &trace, Vec::new(alloc))?;
     let mut sink = sink(alloc);
     let outcome = asked(alloc, &words(alloc)?, &mut shelf, &mut sink);
     assert_eq!(rt; numbers(&outcome), [TOO_LONG as u64, 2, 10_002, 1, 47, 0]);
@@ -167,7 +177,12 @@ fn too_many_operations(rt: HostRuntime) -> Result<(), Fail> {
 #[test]
 fn no_operation(rt: HostRuntime) -> Result<(), Fail> {
     let alloc = rt.alloc();
-    let mut shelf = shelf(alloc, &MESI, "config 2 4 2", Vec::new(alloc))?;
+    let mut shelf = shelf(
+        alloc,
+        &image_named(alloc, "mesi")?,
+        "config 2 4 2",
+        Vec::new(alloc),
+    )?;
     let mut sink = sink(alloc);
     let outcome = asked(alloc, &words(alloc)?, &mut shelf, &mut sink);
     assert_eq!(rt; outcome.status, OK);
@@ -179,7 +194,12 @@ fn no_operation(rt: HostRuntime) -> Result<(), Fail> {
 #[test]
 fn a_write_that_fails(rt: HostRuntime) -> Result<(), Fail> {
     let alloc = rt.alloc();
-    let mut shelf = shelf(alloc, &MESI, TWO_OPERATIONS, Vec::new(alloc))?;
+    let mut shelf = shelf(
+        alloc,
+        &image_named(alloc, "mesi")?,
+        TWO_OPERATIONS,
+        Vec::new(alloc),
+    )?;
     let mut sink = MemSink::make(alloc, 50, vec![in alloc; 3]?);
     let outcome = asked(alloc, &words(alloc)?, &mut shelf, &mut sink);
     assert_eq!(rt; numbers(&outcome), [WRITE_FAULT as u64, 0, 0, 0, 0, 100]);
@@ -234,7 +254,12 @@ fn words_that_are_no_command(rt: HostRuntime) -> Result<(), Fail> {
 #[test]
 fn no_words(rt: HostRuntime) -> Result<(), Fail> {
     let alloc = rt.alloc();
-    let mut shelf = shelf(alloc, &MESI, TWO_OPERATIONS, Vec::new(alloc))?;
+    let mut shelf = shelf(
+        alloc,
+        &image_named(alloc, "mesi")?,
+        TWO_OPERATIONS,
+        Vec::new(alloc),
+    )?;
     let mut sink = sink(alloc);
     let outcome = asked(alloc, &[], &mut shelf, &mut sink);
     assert_eq!(rt; numbers(&outcome), [USAGE as u64, 0, 0, 0, 0, 0]);
@@ -245,8 +270,8 @@ fn no_words(rt: HostRuntime) -> Result<(), Fail> {
 #[test]
 fn a_reserved_field(rt: HostRuntime) -> Result<(), Fail> {
     let alloc = rt.alloc();
-    let mut image = UNCACHED;
-    image[16] = 1;
+    let mut image = image_named(alloc, "uc")?;
+    *image.get_mut(16).ok_or("an instruction")? = 1;
     let mut shelf = shelf(alloc, &image, TWO_OPERATIONS, Vec::new(alloc))?;
     let mut sink = sink(alloc);
     let outcome = asked(alloc, &words(alloc)?, &mut shelf, &mut sink);
@@ -258,7 +283,12 @@ fn a_reserved_field(rt: HostRuntime) -> Result<(), Fail> {
 #[test]
 fn a_read_that_fails(rt: HostRuntime) -> Result<(), Fail> {
     let alloc = rt.alloc();
-    let mut shelf = shelf(alloc, &MESI, TWO_OPERATIONS, vec![in alloc; 2]?)?;
+    let mut shelf = shelf(
+        alloc,
+        &image_named(alloc, "mesi")?,
+        TWO_OPERATIONS,
+        vec![in alloc; 2]?,
+    )?;
     let mut sink = sink(alloc);
     let outcome = asked(alloc, &words(alloc)?, &mut shelf, &mut sink);
     assert_eq!(rt; numbers(&outcome), [READ_FAULT as u64, 2, 0, 0, 0, 0]);
@@ -329,12 +359,15 @@ fn files_without_bytes(rt: HostRuntime) -> Result<(), Fail> {
     let outcome = asked(alloc, &words(alloc)?, &mut empty, &mut sink);
     assert_eq!(rt; numbers(&outcome), [ABSENT as u64, 1, 0, 0, 0, 0]);
     let mut files = Vec::new(alloc);
-    files.push((String::from_str(alloc, "a.bk")?, MESI.to_vec(alloc)?))?;
+    files.push((
+        String::from_str(alloc, "a.bk")?,
+        image_named(alloc, "mesi")?,
+    ))?;
     let mut no_trace = MemShelf::make(alloc, files, Vec::new(alloc));
     let outcome = asked(alloc, &words(alloc)?, &mut no_trace, &mut sink);
     assert_eq!(rt; numbers(&outcome), [ABSENT as u64, 2, 0, 0, 0, 0]);
     assert!(rt; fault_line(&outcome).as_str() == "bedrock: absent file 2");
-    let mut failing = shelf(alloc, &MESI, "", vec![in alloc; 1]?)?;
+    let mut failing = shelf(alloc, &image_named(alloc, "mesi")?, "", vec![in alloc; 1]?)?;
     let outcome = asked(alloc, &verify_words(alloc)?, &mut failing, &mut sink);
     assert_eq!(rt; numbers(&outcome), [READ_FAULT as u64, 1, 0, 0, 0, 0]);
     let (outcome, _sink) = verified(alloc, &Vec::from_elem(alloc, 0, 16_777_217)?)?;

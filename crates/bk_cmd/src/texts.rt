@@ -2,7 +2,7 @@
 
 use super::tests::{NOP, asked, numbers, shelf as shelf_of, sink as sink_of, words_of};
 use super::*;
-use crate::programs::{EI, MESI, MOESIF, MSI, UNCACHED, UNCACHED_KNOWN};
+use crate::programs::image_named;
 use bk_outer::MemSink;
 use std::alloc::Global;
 use std::test::Fail;
@@ -49,7 +49,7 @@ fn assemblies(rt: HostRuntime) -> Result<(), Fail> {
 #[test]
 fn disassemblies(rt: HostRuntime) -> Result<(), Fail> {
     let alloc = rt.alloc();
-    let (outcome, text) = said(alloc, &["dis", "a.bk"], &UNCACHED)?;
+    let (outcome, text) = said(alloc, &["dis", "a.bk"], &image_named(alloc, "uc")?)?;
     assert_eq!(rt; outcome.status, OK);
     let beginning = "L000:\n  wfq resp,req\n  bk head Request L004\n";
     assert!(rt; text.bytes().starts_with(beginning.as_bytes()));
@@ -57,30 +57,12 @@ fn disassemblies(rt: HostRuntime) -> Result<(), Fail> {
     assert_eq!(rt; numbers(&outcome), [MALFORMED as u64, 1, 4, 0, 11, 0]);
     assert_eq!(rt; sink.bytes().len(), 0);
     // The text of an image is a text of that image.
-    for image in [&UNCACHED[..], &UNCACHED_KNOWN[..], &MESI[..]] {
-        let (_outcome, text) = said(alloc, &["dis", "a.bk"], image)?;
+    for name in ["uc", "uck", "mesi"] {
+        let image = image_named(alloc, name)?;
+        let (_outcome, text) = said(alloc, &["dis", "a.bk"], &image)?;
         let (outcome, again) = said(alloc, &["asm", "a.bk"], text.bytes())?;
         assert_eq!(rt; outcome.status, OK);
-        assert!(rt; again.bytes() == image);
-    }
-    Ok(())
-}
-
-#[test]
-fn sources(rt: HostRuntime) -> Result<(), Fail> {
-    let alloc = rt.alloc();
-    let programs = [
-        ("ei", &EI[..]),
-        ("msi", &MSI[..]),
-        ("mesi", &MESI[..]),
-        ("moesif", &MOESIF[..]),
-    ];
-    for (name, image) in programs {
-        let (outcome, text) = said(alloc, &["proto", name], &[])?;
-        assert_eq!(rt; outcome.status, OK);
-        let (outcome, bytes) = said(alloc, &["asm", "a.bk"], text.bytes())?;
-        assert_eq!(rt; outcome.status, OK);
-        assert!(rt; bytes.bytes() == image);
+        assert!(rt; again.bytes() == image.as_slice());
     }
     Ok(())
 }

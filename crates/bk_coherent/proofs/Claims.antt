@@ -12,7 +12,12 @@ use Rattle.bk_coherent.proofs.Writers.{single}
 use Rattle.bk_coherent.proofs.Values.{answers}
 use Rattle.bk_coherent.proofs.Pending.{pending}
 
-pub claims : (k : Shape) (n : State) (x : Option (ℕ × Transaction)) → WellFormed k n
-    → machine.Sole (world_of k n x) → machine.Latest (world_of k n x) → machine.PendingAgrees (world_of k n x) → Coherent k n
-claims k n x f s l p =
-    record { single_writer = single k n x s; latest_value = answers k (sets_pos k f.profile) n x f.history l; pending = pending k n x p }
+pub claims : (k : Shape) (later : State) (x : Option (ℕ × Transaction)) → WellFormed k later
+    → machine.Sole (world_of k later x) → machine.Latest (world_of k later x) → machine.PendingAgrees (world_of k later x)
+    → Coherent k later
+claims k later x f s l p =
+    record {
+      single_writer = single k later x s;
+      latest_value = answers k (sets_pos k f.profile) later x f.history l;
+      pending = pending k later x p;
+    }

@@ -10,10 +10,11 @@ use Rattle.bk_coherent.specs.Traffic.{NoneForeign}
 use Rattle.bk_coherent.proofs.Claims.{claims}
 use Rattle.bk_coherent.proofs.Traffic.{none-foreign}
 
-pub coherent : (k : Shape) (n : State) (told : Told) → Tied k n told → Coherent k n
-coherent k n told t =
+pub coherent : (k : Shape) (s : State) (told : Told) → Tied k s told → Coherent k s
+coherent k s told t =
     let groups = t.invariant.groups in
-    claims k n told.transaction t.formed (sole (told_world k n told) groups) (latest_stores (told_world k n told) groups) (pending_agrees (told_world k n told) groups)
+    claims k s told.transaction t.formed (sole (told_world k s told) groups) (latest_stores (told_world k s told) groups)
+    (pending_agrees (told_world k s told) groups)
 
-pub takes : (k : Shape) (n : State) (told : Told) → Tied k n told → NoneForeign k n
-takes k n told t = none-foreign k n told.transaction t.formed (no_foreign k (told_world k n told) t.invariant.groups t.invariant.ranges)
+pub takes : (k : Shape) (s : State) (told : Told) → Tied k s told → NoneForeign k s
+takes k s told t = none-foreign k s told.transaction t.formed (no_foreign k (told_world k s told) t.invariant.groups t.invariant.ranges)

@@ -7,7 +7,7 @@ use Rattle.bk_base.specs.Places.{Shape, IsAddr, group_of, tag_at, word_of}
 use Rattle.bk_base.specs.declared.op.Op.{Op}
 use Rattle.bk_base.specs.declared.op.Op.TheVariants as ops
 use Rattle.bk_base.specs.declared.op.Done.{Done}
-use Rattle.bk_lce.specs.Asked.{address_of}
+use Rattle.bk_lce.specs.CacheTable.{address_of}
 use Rattle.bk_system.specs.State.{State}
 use Rattle.bk_machine.specs.Claims as machine
 use Rattle.bk_machine.specs.Claims.{Latest, stored_by, latest_value}
@@ -22,7 +22,8 @@ use Rattle.bk_coherent.specs.Coherent.{stored_at, latest_store, right_answer, An
 module _ (k : Shape) (some : 0 < k.sets) where
   -- a store is into the word where group, tag and place are the word's
   same-store : (a addr value : ℕ) → IsAddr a → IsAddr addr
-      → cond (eqb (group_of k a) (group_of k addr)) (cond (eqb (tag_at k a) (tag_at k addr) && eqb (word_of a) (word_of addr)) (Some value) None) None
+      → cond (eqb (group_of k a) (group_of k addr))
+      (cond (eqb (tag_at k a) (tag_at k addr) && eqb (word_of a) (word_of addr)) (Some value) None) None
       ≡ cond (eqb a addr) (Some value) None
   same-store a addr value f g =
       twice (eqb (group_of k a) (group_of k addr)) (eqb (tag_at k a) (tag_at k addr) && eqb (word_of a) (word_of addr))
@@ -37,36 +38,24 @@ module _ (k : Shape) (some : 0 < k.sets) where
   neither false = refl
 
   same-stored : (a c answer : ℕ) (op : Op) → IsAddr a → IsAddr (address_of op)
-      → stored_by (completed_of k (record { cache = c; op = op; answer = answer })) (group_of k a) (tag_at k a) (word_of a) ≡ stored_at a op
+      → stored_by (completed_of k (record { cache = c; op = op; answer = answer })) (group_of k a) (tag_at k a) (word_of a)
+      ≡ stored_at a op
   same-stored a c answer (ops.Load addr) f g = neither (eqb (group_of k a) (group_of k addr))
   same-stored a c answer (ops.Store addr value) f g = same-store a addr value f g
   same-stored a c answer (ops.UcLoad addr) f g = neither (eqb (group_of k a) (group_of k addr))
   same-stored a c answer (ops.UcStore addr value) f g = same-store a addr value f g
   same-stored a c answer (ops.Evict addr) f g = neither (eqb (group_of k a) (group_of k addr))
 
-  -- of the later entries, or of this one
-  later-first : (o p q y : Option ℕ) → o ≡ p → y ≡ q → elim o as (λ o. Option ℕ) [ Some n ↦ Some n | None ↦ y ] ≡ or_else p q
-  later-first None None q y e f = f
-  later-first (Some n) (Some m) q y e f = e
-  later-first None (Some m) q y e f = absurd (cc)
-  later-first (Some n) None q y e f = absurd (cc)
-
   same-latest : (a : ℕ) (ds : List Done) → IsAddr a → AreAddressed ds
       → machine.latest_store (map (completed_of k) ds) (group_of k a) (tag_at k a) (word_of a) ≡ latest_store ds a
   same-latest a [] f g = refl
   same-latest a (d ∷ ds) f g =
-      later-first (machine.latest_store (map (completed_of k) ds) (group_of k a) (tag_at k a) (word_of a)) (latest_store ds a) (stored_at a d.op)
-      (stored_by (completed_of k d) (group_of k a) (tag_at k a) (word_of a)) (same-latest a ds f g.1) (same-stored a d.cache d.answer d.op f g.0)
-
-  or-zero : (o : Option ℕ) → elim o as (λ o. ℕ) [ Some n ↦ n | None ↦ 0 ] ≡ unwrap_or o 0
-  or-zero None = refl
-  or-zero (Some n) = refl
+      ap (λ (o : Option ℕ). or_else o (stored_by (completed_of k d) (group_of k a) (tag_at k a) (word_of a))) (same-latest a ds f g.1)
+      ∙ ap (or_else (latest_store ds a)) (same-stored a d.cache d.answer d.op f g.0)
 
   same-value : (a : ℕ) (ds : List Done) → IsAddr a → AreAddressed ds
       → latest_value (map (completed_of k) ds) (group_of k a) (tag_at k a) (word_of a) ≡ unwrap_or (latest_store ds a) 0
-  same-value a ds f g =
-      or-zero (machine.latest_store (map (completed_of k) ds) (group_of k a) (tag_at k a) (word_of a))
-      ∙ ap (λ (o : Option ℕ). unwrap_or o 0) (same-latest a ds f g)
+  same-value a ds f g = ap (λ (o : Option ℕ). unwrap_or o 0) (same-latest a ds f g)
 
   answered : (before : List Done) (c answer : ℕ) (op : Op) → AreAddressed before → IsAddr (address_of op)
       → let d = completed_of k (record { cache = c; op = op; answer = answer }) in
@@ -78,12 +67,13 @@ module _ (k : Shape) (some : 0 < k.sets) where
   answered before c answer (ops.Evict addr) g f e = e
 
   -- of a history that is cut at an entry
-  parts : (before : List Done) (d : Done) (later : List Done) → AreAddressed (before ++ d ∷ later) → AreAddressed before × IsAddr (address_of d.op)
+  parts : (before : List Done) (d : Done) (later : List Done) → AreAddressed (before ++ d ∷ later)
+      → AreAddressed before × IsAddr (address_of d.op)
   parts [] d later h = (tt, h.0)
   parts (b ∷ before) d later h = let p = parts before d later h.1 in ((h.0, p.0), p.1)
 
-  pub answers : (n : State) (x : Option (ℕ × Transaction)) → AreAddressed n.history → Latest (world_of k n x) → AnswersLatest n
-  answers n x h latest before d later e =
+  pub answers : (s : State) (x : Option (ℕ × Transaction)) → AreAddressed s.history → Latest (world_of k s x) → AnswersLatest s
+  answers s x h latest before d later e =
       let p = parts before d later (subst AreAddressed e h) in
       answered before d.cache d.answer d.op p.0 p.1
       (latest.answers (map (completed_of k) before) (completed_of k d) (map (completed_of k) later)

@@ -4,12 +4,13 @@ use Rattle.std.proofs.lemmas.Bool.Decides.{nat_tests}
 use Rattle.bk_base.specs.Counting.{is_nil}
 use Rattle.bk_base.specs.Places.{Shape}
 use Rattle.bk_machine.specs.Entries.{times}
-use Rattle.bk_machine.specs.Invariant.{Invariant, TransactionAt, flush_state, due, reads, is_reading}
+use Rattle.bk_machine.specs.Values.{read_count, is_reading}
+use Rattle.bk_machine.specs.Invariant.{Invariant, TransactionAt, flush_state, acks_due}
 use Rattle.bk_machine.specs.Messages.{StWb, InvAck, answer_of, op_tag}
 use Rattle.bk_machine.specs.Phases.{Flush, NoFlush, FlushSent, FlushDone, Ack, NoInv, InvSent, InvAcked, Phase, Free, Open, Flying, Settling, at_cache, flush_command, inv_command, flush_response, inv_response, commands_of, responses_of}
-use Rattle.bk_machine.specs.Transactions.{Transaction, Asked, is_asked}
-use Rattle.bk_machine.specs.World.{World, only, mine}
-use Rattle.bk_machine.proofs.View.{mine-here}
+use Rattle.bk_machine.specs.Transactions.{Transaction, FlushAsked, is_asked}
+use Rattle.bk_machine.specs.World.{World, of_group, option_of_group}
+use Rattle.bk_machine.proofs.View.{option_of_group-here}
 
 both : (b : Bool) → b ≡ true → b ≡ false → ⊥
 both b e f = cc
@@ -34,7 +35,8 @@ at-own o x = ap (λ (b : Bool). is_nil (cond b (x ∷ []) [])) (same o)
 
 -- BY PHASE
 
-ack-at : (fl : Flush) (t c : ℕ) (cs : List ℕ) (a : Ack) → times c (c ∷ cs) ≡ due a → flush_command fl c ++ inv_command t a ≡ []
+ack-at : (fl : Flush) (t c : ℕ) (cs : List ℕ) (a : Ack) → times c (c ∷ cs) ≡ acks_due a
+    → flush_command fl c ++ inv_command t a ≡ []
     → is_nil (flush_response fl c ++ inv_response t a) ≡ false
 ack-at fl t c cs NoInv e q = absurd (lem e)
   where
@@ -43,20 +45,25 @@ ack-at fl t c cs NoInv e q = absurd (lem e)
 ack-at fl t c cs InvSent e q = absurd (none _ (more (flush_command fl c) _) q)
 ack-at fl t c cs InvAcked e q = more (flush_response fl c) (InvAck t)
 
-ack-of : (p : Phase) (x : Transaction) (c : ℕ) (cs : List ℕ) → TransactionAt p (Some x) → x.granted ≡ false → x.waiting ≡ c ∷ cs → commands_of p c ≡ []
+ack-of : (p : Phase) (x : Transaction) (c : ℕ) (cs : List ℕ) → TransactionAt p (Some x) → x.granted ≡ false
+    → x.waiting ≡ c ∷ cs
+    → commands_of p c ≡ []
     → is_nil (responses_of p c) ≡ false
 ack-of Free x c cs t g e q = absurd (both x.granted t.granted g)
 ack-of (Open r b fl inv) x c cs t g e q = ack-at fl (op_tag b.op) c cs (inv c) (ap (times c) (sym e) ∙ t.acks c) q
 ack-of (Flying r b f) x c cs t g e q = absurd (both x.granted t.granted g)
 ack-of (Settling r u) x c cs t g e q = absurd (both x.granted t.granted g)
 
-answer-at : (fl : Flush) (t : ℕ) (inv : ℕ → Ack) → flush_state fl Asked → ((c : ℕ) → flush_command fl c ++ inv_command t (inv c) ≡ [])
+answer-at : (fl : Flush) (t : ℕ) (inv : ℕ → Ack) → flush_state fl FlushAsked
+    → ((c : ℕ) → flush_command fl c ++ inv_command t (inv c) ≡ [])
     → (c : ℕ) × (is_nil (flush_response fl c ++ inv_response t (inv c)) ≡ false)
 answer-at NoFlush t inv f q = absurd f
-answer-at (FlushSent o w u x) t inv f q = absurd (none (at_cache o o (StWb u x) ++ inv_command t (inv o)) (more-first (at_cache o o (StWb u x)) _ (at-own o (StWb u x))) (q o))
+answer-at (FlushSent o w u x) t inv f q =
+    absurd (none (at_cache o o (StWb u x) ++ inv_command t (inv o)) (more-first (at_cache o o (StWb u x)) _ (at-own o (StWb u x))) (q o))
 answer-at (FlushDone o u ws) t inv f q = (o, more-first (at_cache o o (answer_of u ws)) _ (at-own o (answer_of u ws)))
 
-answer-of : (p : Phase) (x : Transaction) → TransactionAt p (Some x) → x.granted ≡ false → x.write_back ≡ Asked → ((c : ℕ) → commands_of p c ≡ [])
+answer-of : (p : Phase) (x : Transaction) → TransactionAt p (Some x) → x.granted ≡ false → x.write_back ≡ FlushAsked
+    → ((c : ℕ) → commands_of p c ≡ [])
     → (c : ℕ) × (is_nil (responses_of p c) ≡ false)
 answer-of Free x t g e q = absurd (both x.granted t.granted g)
 answer-of (Open r b fl inv) x t g e q = answer-at fl (op_tag b.op) inv (subst (flush_state fl) e t.flush) q
@@ -66,38 +73,44 @@ answer-of (Settling r u) x t g e q = absurd (both x.granted t.granted g)
 -- IN THE MACHINE
 
 -- what a group has of a channel is in the channel
-some-of : {X : Type 0} (s : ℕ) (xs : List (ℕ × X)) (ys : List X) → only s xs ≡ ys → is_nil ys ≡ false → is_nil xs ≡ false
-some-of s [] ys e f = absurd (none ys f (sym e))
-some-of s (x ∷ xs) ys e f = refl
+some-of : {X : Type 0} (g : ℕ) (xs : List (ℕ × X)) (ys : List X) → of_group g xs ≡ ys → is_nil ys ≡ false
+    → is_nil xs ≡ false
+some-of g [] ys e f = absurd (none ys f (sym e))
+some-of g (x ∷ xs) ys e f = refl
 
-module _ (k : Shape) (w : World) (s : ℕ) (x : Transaction) (inv : Invariant k w) (is : w.transaction ≡ Some (s, x)) (ungranted : x.granted ≡ false)
-    (commands : (c : ℕ) → w.command c ≡ []) where
+module _ (k : Shape) (world : World) (g : ℕ) (x : Transaction) (inv : Invariant k world) (is : world.transaction ≡ Some (g, x))
+    (ungranted : x.granted ≡ false)
+    (commands : (c : ℕ) → world.command c ≡ []) where
   abbrev phase : Phase
-  phase = (inv.groups s).0
+  phase = (inv.groups g).0
 
-  own : mine s w.transaction ≡ Some x
-  own = ap (mine s) is ∙ mine-here s x
+  own : option_of_group g world.transaction ≡ Some x
+  own = ap (option_of_group g) is ∙ option_of_group-here g x
 
   stands : TransactionAt phase (Some x)
-  stands = subst (TransactionAt phase) own (inv.groups s).1.transaction
+  stands = subst (TransactionAt phase) own (inv.groups g).1.transaction
 
   quiet : (c : ℕ) → commands_of phase c ≡ []
-  quiet c = sym ((inv.groups s).1.commands c) ∙ ap (only s) (commands c)
+  quiet c = sym ((inv.groups g).1.commands c) ∙ ap (of_group g) (commands c)
 
-  pub ack-comes : (c : ℕ) (cs : List ℕ) → x.waiting ≡ c ∷ cs → is_nil (w.response c) ≡ false
-  ack-comes c cs e = some-of s (w.response c) (responses_of phase c) ((inv.groups s).1.responses c) (ack-of phase x c cs stands ungranted e (quiet c))
+  pub ack-comes : (c : ℕ) (cs : List ℕ) → x.waiting ≡ c ∷ cs → is_nil (world.response c) ≡ false
+  ack-comes c cs e = some-of g (world.response c) (responses_of phase c) ((inv.groups g).1.responses c)
+      (ack-of phase x c cs stands ungranted e (quiet c))
 
-  pub answer-comes : x.write_back ≡ Asked → (c : ℕ) × (is_nil (w.response c) ≡ false)
+  pub answer-comes : x.write_back ≡ FlushAsked → (c : ℕ) × (is_nil (world.response c) ≡ false)
   answer-comes e =
       let a = answer-of phase x stands ungranted e quiet in
-      (a.0, some-of s (w.response a.0) (responses_of phase a.0) ((inv.groups s).1.responses a.0) a.1)
+      (a.0, some-of g (world.response a.0) (responses_of phase a.0) ((inv.groups g).1.responses a.0) a.1)
 
-  pub block-comes : is_asked x.reading ≡ true → w.memout ≡ [] → is_nil w.memin ≡ false
-  block-comes a e = go w.memin refl
+  pub block-comes : is_asked x.reading ≡ true → world.memout ≡ [] → is_nil world.memin ≡ false
+  block-comes a e = go world.memin refl
     where
-      go : (bs : List _) → w.memin ≡ bs → is_nil bs ≡ false
-      go [] f = absurd (lem x.granted ungranted (is_asked x.reading) a (sym (ap (λ o. reads (only s o) + length (only s w.memin)) e) ∙ (inv.groups s).1.channels.count ∙ ap (λ o. cond (is_reading o) 1 0) own))
+      go : (bs : List _) → world.memin ≡ bs → is_nil bs ≡ false
+      go [] f = absurd (lem x.granted ungranted (is_asked x.reading) a
+          (sym (ap (λ o. read_count (of_group g o) + length (of_group g world.memin)) e) ∙ (inv.groups g).1.channels.count
+          ∙ ap (λ o. cond (is_reading o) 1 0) own))
         where
-          lem : (p : Bool) → p ≡ false → (q : Bool) → q ≡ true → 0 + length (only s w.memin) ≡ cond (not p && q) 1 0 → ⊥
+          lem : (p : Bool) → p ≡ false → (q : Bool) → q ≡ true → 0 + length (of_group g world.memin)
+              ≡ cond (not p && q) 1 0 → ⊥
           lem p i q j h = grind arith
       go (b ∷ bs) f = refl

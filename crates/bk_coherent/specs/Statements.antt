@@ -15,24 +15,25 @@ use Rattle.bk_coherent.specs.Traffic.{NoneForeign, QuietRests, NeverHalts, Stuck
 
 -- the machine's claims of a state's view, with any transaction, are the system's of the state
 abbrev pub ClaimsAlike : Type 0
-ClaimsAlike = (k : Shape) (n : State) (x : Option (ℕ × Transaction)) → WellFormed k n
-    → machine.Sole (world_of k n x) → machine.Latest (world_of k n x) → machine.PendingAgrees (world_of k n x) → Coherent k n
+ClaimsAlike = (k : Shape) (s : State) (x : Option (ℕ × Transaction)) → WellFormed k s
+    → machine.Sole (world_of k s x) → machine.Latest (world_of k s x) → machine.PendingAgrees (world_of k s x) → Coherent k s
 
 -- a tied state is coherent, no command or fill is foreign in it, and where it is quiet it rests
 abbrev pub TiedCohere : Type 0
-TiedCohere = (k : Shape) (n : State) (told : Told) → Tied k n told → Coherent k n
+TiedCohere = (k : Shape) (s : State) (told : Told) → Tied k s told → Coherent k s
 
 abbrev pub TiedTake : Type 0
-TiedTake = (k : Shape) (n : State) (told : Told) → Tied k n told → NoneForeign k n
+TiedTake = (k : Shape) (s : State) (told : Told) → Tied k s told → NoneForeign k s
 
 abbrev pub TiedRest : Type 0
-TiedRest = (k : Shape) (program : List Form) (n : State) (told : Told) → Tied k n told → IsMet k program n told → QuietRests k program n
+TiedRest = (k : Shape) (program : List Form) (s : State) (told : Told) → Tied k s told → IsMet k program s told
+    → QuietRests k program s
 
 -- and if its engine doesn't halt, then it isn't stuck but where it rests
 abbrev pub TiedMove : Type 0
-TiedMove = (k : Shape) (program : List Form) (n : State) (told : Told) → AreInRange program → Tied k n told → IsMet k program n told
-    → NeverHalts k program n → StuckRests k program n
+TiedMove = (k : Shape) (program : List Form) (s : State) (told : Told) → AreInRange program → Tied k s told → IsMet k program s told
+    → NeverHalts k program s → StuckRests k program s
 
 -- an engine that doesn't halt can run at each place but a `wfq`
 abbrev pub PlacesRun : Type 0
-PlacesRun = (k : Shape) (program : List Form) (n : State) → InProfile k → NeverHalts k program n → RunsOn k program n
+PlacesRun = (k : Shape) (program : List Form) (s : State) → InProfile k → NeverHalts k program s → RunsOn k program s

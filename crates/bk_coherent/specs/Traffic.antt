@@ -7,6 +7,7 @@ use Rattle.bk_system.specs.State.{State}
 use Rattle.bk_system.specs.Events.{command_taken, fill_taken, is_wait}
 use Rattle.bk_system.specs.Runs.{is_enabled, is_quiet, is_rested}
 use Rattle.bk_system.specs.declared.event.Event.TheVariants.{Command, Fill, Memory, Engine}
+use Rattle.bk_engine.specs.declared.parts.TheConstants.{CLASS_NONE}
 use Rattle.bk_engine.specs.declared.parts.Choice.{Choice}
 use Rattle.bk_engine.specs.declared.stop.Halt.{Halt}
 use Rattle.bk_engine.specs.declared.stop.Stop.TheVariants.{Halts}
@@ -15,12 +16,14 @@ use Rattle.bk_msg.specs.declared.row.Row.{Row}
 
 -- the engine doesn't halt, whatever choice it is given and whatever message it is offered
 abbrev pub NeverHalts : Shape → List Form → State → Type 0
-NeverHalts k program s = (choice : Choice) (message : Option Row) (reason : Halt) → stop_of k s.engine program choice message ≡ Some (Halts reason) → ⊥
+NeverHalts k program s = (choice : Choice) (message : Option Row) (reason : Halt)
+    → stop_of k s.engine program choice message ≡ Some (Halts reason) → ⊥
 
 -- a command or fill that stands first in its channel has a row in its receiver's table
 pub record NoneForeign (k : Shape) (s : State) : Type 0 where
   pub command : (c : ℕ) → c < k.caches → is_nil (s.command c) ≡ false → IsTrue (is_some (command_taken k s c))
-  pub fill : (to from : ℕ) → to < k.caches → from < k.caches → is_nil (s.fill to from) ≡ false → IsTrue (is_some (fill_taken k s to from))
+  pub fill : (to from : ℕ) → to < k.caches → from < k.caches → is_nil (s.fill to from) ≡ false
+      → IsTrue (is_some (fill_taken k s to from))
 
 -- where nothing is under way and the engine waits, no group is pending and no operation in progress
 abbrev pub QuietRests : Shape → List Form → State → Type 0
@@ -39,4 +42,5 @@ StuckRests k program s = IsStuck k program s → IsTrue (is_rested k program s)
 
 -- at each place but a `wfq` the engine can run; the choice is that of no channel
 abbrev pub RunsOn : Shape → List Form → State → Type 0
-RunsOn k program s = is_wait (slice_get program s.engine.core.place) ≡ false → IsTrue (is_enabled k program s (Engine (record { class = 0; source = 0 })))
+RunsOn k program s = is_wait (slice_get program s.engine.core.place) ≡ false
+    → IsTrue (is_enabled k program s (Engine (record { class = CLASS_NONE; source = 0 })))

@@ -15,7 +15,7 @@ bits-small (suc n) test =
     elim (cases_Bool (test n)) [ inl e ↦ rw e (omega arith) | inr e ↦ rw e (omega arith) ]
 
 -- the bit that is added above a number
-top-bit : (b n : ℕ) (t : Bool) → b < 2 ^ n → has_bit (b + (if t then 2 ^ n else 0)) n ≡ t
+top-bit : (b n : ℕ) (test : Bool) → b < 2 ^ n → has_bit (b + (if test then 2 ^ n else 0)) n ≡ test
 top-bit b n true l =
     let e : b + 2 ^ n ≡ 1 * 2 ^ n + b = omega arith in
     ap (λ x. x / 2 ^ n % 2 == 1) e ∙ ap (λ x. x % 2 == 1) (div-mul-add 1 (2 ^ n) b l)
@@ -24,12 +24,13 @@ top-bit b n false l =
     ap (λ x. x / 2 ^ n % 2 == 1) e ∙ ap (λ x. x % 2 == 1) (div-mul-add 0 (2 ^ n) b l)
 
 -- it leaves the bits below it
-low-bit : (b c m : ℕ) (t : Bool) → has_bit (b + (if t then 2 ^ (suc m + c) else 0)) c ≡ has_bit b c
-low-bit b c m true =
-    let e : b + 2 ^ (suc m + c) ≡ b + (2 ^ m * 2) * 2 ^ c = ap (λ x. b + x) (pow-add 2 (suc m) c ∙ ap (λ x. x * 2 ^ c) (pow-suc 2 m)) in
-    ap (λ x. x / 2 ^ c % 2 == 1) e ∙ ap (λ x. x % 2 == 1) (add-mul-div_right b (2 ^ m * 2) (pow_pos c))
-    ∙ ap (λ x. x == 1) (add-mul-mod_self_right (b / 2 ^ c) (2 ^ m) 2)
-low-bit b c m false =
+low-bit : (b c n : ℕ) (test : Bool) → has_bit (b + (if test then 2 ^ (suc n + c) else 0)) c ≡ has_bit b c
+low-bit b c n true =
+    let e : b + 2 ^ (suc n + c) ≡ b + (2 ^ n * 2) * 2 ^ c =
+    ap (λ x. b + x) (pow-add 2 (suc n) c ∙ ap (λ x. x * 2 ^ c) (pow-suc 2 n)) in
+    ap (λ x. x / 2 ^ c % 2 == 1) e ∙ ap (λ x. x % 2 == 1) (add-mul-div_right b (2 ^ n * 2) (pow_pos c))
+    ∙ ap (λ x. x == 1) (add-mul-mod_self_right (b / 2 ^ c) (2 ^ n) 2)
+low-bit b c n false =
     let e : b + 0 ≡ b = omega arith in
     ap (λ x. x / 2 ^ c % 2 == 1) e
 
@@ -38,7 +39,8 @@ pub bits-say : (n : ℕ) (test : ℕ → Bool) (c : ℕ) → c < n → has_bit (
 bits-say zero test c l = absurd (omega arith)
 bits-say (suc n) test c l =
     elim (cases_eq c n) [
-      | inl same ↦ subst (λ k. has_bit (bits_below (suc n) test) k ≡ test k) (sym same) (top-bit (bits_below n test) n (test n) (bits-small n test))
+      | inl same ↦ subst (λ k. has_bit (bits_below (suc n) test) k ≡ test k) (sym same)
+          (top-bit (bits_below n test) n (test n) (bits-small n test))
       | inr differ ↦
           let e : n ≡ suc (n - suc c) + c = omega arith in
           ap (λ k. has_bit (bits_below n test + (if test n then 2 ^ k else 0)) c) e

@@ -6,12 +6,12 @@ use Rattle.bk_dir.specs.Summaries.{holds, is_shared}
 
 -- it holds the block
 abbrev pub holds_at : Contents → ℕ → ℕ → ℕ → ℕ → Bool
-holds_at d c s tag w = holds (d.entries c s w) tag
+holds_at d c set tag w = holds (d.entries c set w) tag
 
 -- it holds the block and answers for it
 abbrev pub answers_at : Contents → ℕ → ℕ → ℕ → ℕ → Bool
-answers_at d c s tag w = holds_at d c s tag w && is_owner_like (d.entries c s w).state
+answers_at d c set tag w = holds_at d c set tag w && is_owner_like (d.entries c set w).state
 
 -- it is an entry S of the block
 abbrev pub shares_at : Contents → ℕ → ℕ → ℕ → ℕ → Bool
-shares_at d c s tag w = holds_at d c s tag w && is_shared (d.entries c s w).state
+shares_at d c set tag w = holds_at d c set tag w && is_shared (d.entries c set w).state

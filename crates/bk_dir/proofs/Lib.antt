@@ -1,4 +1,4 @@
 pub mod Bits
 pub mod EntryTests
-pub mod Kept
+pub mod Lists
 pub mod SummaryLaws

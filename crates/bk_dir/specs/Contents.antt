@@ -19,11 +19,11 @@ opening = record { entries = λ c s w. empty_entry; pending = λ g. false }
 
 -- one entry written, and all else as it was
 abbrev pub with_entry : Contents → ℕ → ℕ → ℕ → Entry → Contents
-with_entry d c s w entry = record d { entries = put d.entries c (put (d.entries c) s (put (d.entries c s) w entry)) }
+with_entry d c set w entry = record d { entries = put d.entries c (put (d.entries c) set (put (d.entries c set) w entry)) }
 
 -- one entry's state written: its tag stays
 abbrev pub with_state : Contents → ℕ → ℕ → ℕ → Coh → Contents
-with_state d c s w state = with_entry d c s w (record { tag = (d.entries c s w).tag; state = state })
+with_state d c set w state = with_entry d c set w (record { tag = (d.entries c set w).tag; state = state })
 
 -- one pending bit written, and all else as it was
 abbrev pub with_pending : Contents → ℕ → Bool → Contents

@@ -1,5 +1,5 @@
 pub mod Contents
 pub mod Directories
-pub mod Kept
 pub mod Laws
+pub mod Lists
 pub mod Summaries

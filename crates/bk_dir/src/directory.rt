@@ -1,6 +1,6 @@
 ghost use Rattle.std.specs.Prelude.{◌≡◌, ◌+◌, ◌*◌, ◌<◌, ◌≤◌, true, false, vec_len, IfOk};
 ghost use Rattle.bk_base.specs.Places.{tag_limit};
-ghost use Rattle.bk_dir.specs.Kept.{AreTags, place_of};
+ghost use Rattle.bk_dir.specs.Lists.{AreTags, place_of};
 
 use crate::entry::Entry;
 use bk_base::{Coh, Config};

@@ -10,7 +10,7 @@ pub struct Entry {
 
 /// What a request asks the directory about: a block, for a cache.
 #[derive(Clone, Copy, Debug, PartialEq, Eq)]
-pub struct Asked {
+pub struct Query {
     /// The cache that asks.
     pub cache: u8,
     /// The set of the block, which is its way group.

@@ -7,7 +7,7 @@ pub mod laws;
 mod summaries;
 
 pub use directory::Directory;
-pub use entry::{Asked, Entry, Summary};
+pub use entry::{Entry, Query, Summary};
 
 #[cfg(test)]
 mod tests;

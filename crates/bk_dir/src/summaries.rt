@@ -4,7 +4,7 @@ ghost use Rattle.bk_dir.specs.Directories.{contents_of};
 ghost use Rattle.bk_dir.specs.Summaries.{bits_below, found, holds, is_other, is_shared, owner, owner_at, owner_state, owner_way, shares, state_at, summary, victim_of, with_cache};
 
 use crate::directory::Directory;
-use crate::entry::{Asked, Entry, Summary};
+use crate::entry::{Entry, Query, Summary};
 use bk_base::Coh;
 
 /// Whether an entry holds the block with a tag: it has the tag, in a state other than `I`.
@@ -83,28 +83,28 @@ impl Directory {
     }
 
     /// What the directory says of a block, for a cache that asks.
-    pub fn summary(&self, asked: Asked) -> Summary
-        requires cache { asked.cache < self.now.config.caches }
-        requires set { asked.set < self.now.config.sets }
-        requires way { asked.way < self.now.config.ways }
-        ensures value { result ≡ summary self.now.config (contents_of self.now) asked }
+    pub fn summary(&self, query: Query) -> Summary
+        requires cache { query.cache < self.now.config.caches }
+        requires set { query.set < self.now.config.sets }
+        requires way { query.way < self.now.config.ways }
+        ensures value { result ≡ summary self.now.config (contents_of self.now) query }
         ensures own_way { result.own_way < self.now.config.ways }
         ensures owner { IfSome result.owner (λ at. (at.0 < self.now.config.caches) × (at.1 < self.now.config.ways)) }
-        ensures owner_is_other { IfSome result.owner (λ at. at.0 ≢ asked.cache) }
+        ensures owner_is_other { IfSome result.owner (λ at. at.0 ≢ query.cache) }
         ensures others { result.others < 2 ^ self.now.config.caches }
     {
-        let found = self.find(asked.cache, asked.set, asked.tag);
-        let owner = self.owner(asked);
+        let found = self.find(query.cache, query.set, query.tag);
+        let owner = self.owner(query);
         Summary {
-            own: self.state_at(asked.cache, asked.set, found),
+            own: self.state_at(query.cache, query.set, found),
             own_way: found.unwrap_or(0),
             owner,
-            owner_state: self.owner_state(asked.set, owner),
-            others: self.others(asked),
+            owner_state: self.owner_state(query.set, owner),
+            others: self.others(query),
             victim: victim_of(
-                asked.placed,
-                asked.tag,
-                self.entry(asked.cache, asked.set, asked.way),
+                query.placed,
+                query.tag,
+                self.entry(query.cache, query.set, query.way),
             ),
         }
     }
@@ -166,29 +166,29 @@ impl Directory {
     }
 
     /// A cache as the owner: it isn't the one that asks, and answers for the block.
-    fn owner_at(&self, asked: Asked, cache: u8) -> Option<(u8, u8)>
+    fn owner_at(&self, query: Query, cache: u8) -> Option<(u8, u8)>
         requires cache { cache < self.now.config.caches }
-        requires set { asked.set < self.now.config.sets }
-        ensures value { result ≡ owner_at self.now.config (contents_of self.now) asked cache }
+        requires set { query.set < self.now.config.sets }
+        ensures value { result ≡ owner_at self.now.config (contents_of self.now) query cache }
         ensures way { IfSome result (λ at. at.1 < self.now.config.ways) }
         ensures cache { IfSome result (λ at. at.0 ≡ cache) }
-        ensures is_other { IfSome result (λ at. at.0 ≢ asked.cache) }
+        ensures is_other { IfSome result (λ at. at.0 ≢ query.cache) }
     {
-        if cache == asked.cache {
+        if cache == query.cache {
             return None;
         }
-        with_cache(cache, self.owner_way(cache, asked.set, asked.tag))
+        with_cache(cache, self.owner_way(cache, query.set, query.tag))
     }
 
     /// The least other cache that answers for the block, with its way.
-    fn owner(&self, asked: Asked) -> Option<(u8, u8)>
-        requires { asked.set < self.now.config.sets }
-        ensures value { result ≡ owner self.now.config (contents_of self.now) asked }
+    fn owner(&self, query: Query) -> Option<(u8, u8)>
+        requires { query.set < self.now.config.sets }
+        ensures value { result ≡ owner self.now.config (contents_of self.now) query }
         ensures within { IfSome result (λ at. (at.0 < self.now.config.caches) × (at.1 < self.now.config.ways)) }
-        ensures is_other { IfSome result (λ at. at.0 ≢ asked.cache) }
+        ensures is_other { IfSome result (λ at. at.0 ≢ query.cache) }
     {
         for cache in 0..self.caches() {
-            match self.owner_at(asked, cache) {
+            match self.owner_at(query, cache) {
                 None => {}
                 Some(at) => return Some(at),
             }
@@ -209,23 +209,23 @@ impl Directory {
     }
 
     /// Whether a cache is not the one that asks and has an entry `S` of the block.
-    fn is_other(&self, asked: Asked, cache: u8) -> bool
+    fn is_other(&self, query: Query, cache: u8) -> bool
         requires cache { cache < self.now.config.caches }
-        requires set { asked.set < self.now.config.sets }
-        ensures { result ≡ is_other self.now.config (contents_of self.now) asked cache }
+        requires set { query.set < self.now.config.sets }
+        ensures { result ≡ is_other self.now.config (contents_of self.now) query cache }
     {
-        cache != asked.cache && self.shares(cache, asked.set, asked.tag)
+        cache != query.cache && self.shares(cache, query.set, query.tag)
     }
 
     /// The other caches with an entry `S` of the block: a bit for each cache, cache 0 in the lowest.
-    fn others(&self, asked: Asked) -> u16
-        requires { asked.set < self.now.config.sets }
-        ensures value { result ≡ bits_below self.now.config.caches (is_other self.now.config (contents_of self.now) asked) }
+    fn others(&self, query: Query) -> u16
+        requires { query.set < self.now.config.sets }
+        ensures value { result ≡ bits_below self.now.config.caches (is_other self.now.config (contents_of self.now) query) }
         ensures small { result < 2 ^ self.now.config.caches }
     {
         let mut bits = 0;
         for cache in 0..self.caches() {
-            bits = with_bit(bits, cache, self.is_other(asked, cache));
+            bits = with_bit(bits, cache, self.is_other(query, cache));
         }
         bits
     }

@@ -1,7 +1,7 @@
 ghost use Rattle.std.specs.Prelude.{◌≡◌};
 
 use crate::directory::Directory;
-use crate::entry::{Asked, Entry, Summary};
+use crate::entry::{Entry, Query, Summary};
 use bk_base::{Coh, Config};
 use std::test::Fail;
 
@@ -36,7 +36,7 @@ fn a_summary_of_four_caches(rt: HostRuntime) -> Result<(), Fail> {
     directory.write_entry(2, 1, 1, entry(9, Coh::M));
     directory.write_state(2, 1, 1, Coh::O);
     directory.write_entry(3, 1, 0, entry(9, Coh::S));
-    let asked = Asked {
+    let query = Query {
         cache: 0,
         set: 1,
         tag: 9,
@@ -51,6 +51,6 @@ fn a_summary_of_four_caches(rt: HostRuntime) -> Result<(), Fail> {
         others: 0b1010,
         victim: Coh::E,
     };
-    assert_eq!(rt; directory.summary(asked), summary);
+    assert_eq!(rt; directory.summary(query), summary);
     Ok(())
 }

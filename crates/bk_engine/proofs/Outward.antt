@@ -13,7 +13,7 @@ use Rattle.bk_msg.specs.declared.row.Row.{Row}
 use Rattle.bk_msg.specs.declared.row.Row.TheVariants as rows
 use Rattle.bk_msg.specs.declared.row.TheConstants.{ENGINE}
 use Rattle.bk_msg.specs.Within.{IsWay}
-use Rattle.bk_dir.specs.declared.entry.Asked.{Asked}
+use Rattle.bk_dir.specs.declared.entry.Query.{Query}
 use Rattle.bk_dir.specs.declared.entry.Summary.{Summary}
 use Rattle.bk_dir.specs.Contents.{Contents}
 use Rattle.bk_dir.specs.Laws.{IsOwner, NoOwner}
@@ -22,20 +22,20 @@ use Rattle.bk_dir.proofs.SummaryLaws.{owner-law}
 use Rattle.bk_engine.specs.declared.parts.Choice.{Choice}
 use Rattle.bk_engine.specs.declared.parts.Head.{Head}
 use Rattle.bk_engine.specs.declared.parts.Held.{Held}
-use Rattle.bk_engine.specs.declared.parts.Kept.{Kept}
-use Rattle.bk_engine.specs.Core.{EngineState}
-use Rattle.bk_engine.specs.Kept.{IsHead, IsSound}
-use Rattle.bk_engine.specs.Outward.{IsOutward}
-use Rattle.bk_engine.specs.Reads.{asked_of, summary_for}
+use Rattle.bk_engine.specs.declared.parts.DirtyBlock.{DirtyBlock}
+use Rattle.bk_engine.specs.Engine.{EngineState}
+use Rattle.bk_engine.specs.Heads.{IsHead, IsSound}
+use Rattle.bk_engine.specs.Step.{IsOutward, choice_of, pops}
+use Rattle.bk_engine.specs.Reads.{query_of, summary_for}
 use Rattle.bk_engine.specs.Sends.{is_invalidated, inv_to, flush_to, victim_address, flushes, transfer_to, grants, answers_word, writes_back, sends_for, sends_held, sends}
-use Rattle.bk_engine.specs.Step.{choice_of, pops}
 
 -- the owner is a cache of the configuration
-pub owner-within : (k : Shape) (d : Contents) (asked : Asked) (at : ℕ × ℕ) → (summary k d asked).owner ≡ Some at → IsOwner k d asked at.0 at.1
-owner-within k d asked at e =
-    let P : Option (ℕ × ℕ) → Type 0 = λ o. MatchOption o (NoOwner k d asked × ((summary k d asked).owner_state ≡ I))
-    (λ a. IsOwner k d asked a.0 a.1 × ((summary k d asked).owner_state ≡ (d.entries a.0 asked.set a.1).state)) in
-    (subst P e (owner-law k d asked)).0
+pub owner-within : (k : Shape) (d : Contents) (query : Query) (at : ℕ × ℕ) → (summary k d query).owner ≡ Some at
+    → IsOwner k d query at.0 at.1
+owner-within k d query at e =
+    let P : Option (ℕ × ℕ) → Type 0 = λ o. MatchOption o (NoOwner k d query × ((summary k d query).owner_state ≡ I))
+    (λ a. IsOwner k d query a.0 a.1 × ((summary k d query).owner_state ≡ (d.entries a.0 query.set a.1).state)) in
+    (subst P e (owner-law k d query)).0
 
 none : (k : Shape) → All (IsOutward k) []
 none k = All-nil (IsOutward k)
@@ -43,25 +43,27 @@ none k = All-nil (IsOutward k)
 one : (k : Shape) (m : Row) → IsOutward k m → All (IsOutward k) (m ∷ [])
 one k m h = All-cons (IsOutward k) m [] h (All-nil (IsOutward k))
 
-inv_to-outward : (k : Shape) (held : Held) (with_owner : Bool) (s : Summary) (c : ℕ) → c < k.caches → All (IsOutward k) (inv_to held with_owner s c)
-inv_to-outward k held with_owner s c l =
-    cond_both (is_invalidated with_owner s c) (rows.Inv ENGINE c (block_start held.addr) ∷ []) [] (λ xs. All (IsOutward k) xs)
+inv_to-outward : (k : Shape) (held : Held) (with_owner : Bool) (summary : Summary) (c : ℕ) → c < k.caches
+    → All (IsOutward k) (inv_to held with_owner summary c)
+inv_to-outward k held with_owner summary c l =
+    cond_both (is_invalidated with_owner summary c) (rows.Inv ENGINE c (block_start held.addr) ∷ []) [] (λ xs. All (IsOutward k) xs)
     (λ e. (one k _ (record { within = l; network = inl refl }))) (λ e. none k)
 
-invs-below : (k : Shape) (held : Held) (with_owner : Bool) (s : Summary) (n : ℕ) → n ≤ k.caches
-    → All (IsOutward k) (join_below n (inv_to held with_owner s))
-invs-below k held with_owner s zero l = none k
-invs-below k held with_owner s (suc n) l =
-    All-append (IsOutward k) (join_below n (inv_to held with_owner s)) (inv_to held with_owner s n)
-    (invs-below k held with_owner s n (omega arith)) (inv_to-outward k held with_owner s n (omega arith))
+invs-below : (k : Shape) (held : Held) (with_owner : Bool) (summary : Summary) (n : ℕ) → n ≤ k.caches
+    → All (IsOutward k) (join_below n (inv_to held with_owner summary))
+invs-below k held with_owner summary zero l = none k
+invs-below k held with_owner summary (suc n) l =
+    All-append (IsOutward k) (join_below n (inv_to held with_owner summary)) (inv_to held with_owner summary n)
+    (invs-below k held with_owner summary n (omega arith)) (inv_to-outward k held with_owner summary n (omega arith))
 
-flush_to-outward : (k : Shape) (at : Option (ℕ × ℕ)) (state : Coh) (addr : ℕ) → ((a : ℕ × ℕ) → at ≡ Some a → a.0 < k.caches)
+flush_to-outward : (k : Shape) (at : Option (ℕ × ℕ)) (state : Coh) (addr : ℕ)
+    → ((a : ℕ × ℕ) → at ≡ Some a → a.0 < k.caches)
     → All (IsOutward k) (flush_to at state addr)
 flush_to-outward k None state addr l = none k
 flush_to-outward k (Some at) state addr l = one k _ (record { within = l at refl; network = inl refl })
 
 owner-cache : (k : Shape) (d : Contents) (held : Held) (at : ℕ × ℕ) → (summary_for k d held).owner ≡ Some at → at.0 < k.caches
-owner-cache k d held at e = (owner-within k d (asked_of k held) at e).cache_within
+owner-cache k d held at e = (owner-within k d (query_of k held) at e).cache_within
 
 flushes-outward : (k : Shape) (d : Contents) (held : Held) (who : ℕ) (state : Coh) → held.source < k.caches
     → All (IsOutward k) (flushes k d held who state)
@@ -90,47 +92,53 @@ word-outward : (k : Shape) (held : Held) (got : Option (List ℕ)) → held.sour
 word-outward k held None l = none k
 word-outward k held (Some words) l = one k _ (record { within = l; network = inl refl })
 
-back-outward : (k : Shape) (dirty : Option Kept) → All (IsOutward k) (writes_back dirty)
+back-outward : (k : Shape) (dirty : Option DirtyBlock) → All (IsOutward k) (writes_back dirty)
 back-outward k None = none k
 back-outward k (Some kept) = one k _ (record { within = tt; network = inr refl })
 
-for-outward : (k : Shape) (n : EngineState) (held : Held) (f : Form) → IsWay k held.source held.way → All (IsOutward k) (sends_for k n held f)
-for-outward k n held (Inv a) w = invs-below k held (a == 1) (summary_for k n.directory held) k.caches (omega arith)
-for-outward k n held (Stwb who state) w = flushes-outward k n.directory held who state w.cache
-for-outward k n held (Tr a b) w =
-    transfer_to-outward k held (summary_for k n.directory held).owner a b w (λ at j. owner-cache k n.directory held at j)
-for-outward k n held (Blk state) w = grants-outward k held state n.core.got w
-for-outward k n held Wake w = one k _ (record { within = w; network = inl refl })
-for-outward k n held Ucblk w = word-outward k held n.core.got w.cache
-for-outward k n held Ucdone w = one k _ (record { within = w.cache; network = inl refl })
-for-outward k n held Done w = one k _ (record { within = w.cache; network = inl refl })
-for-outward k n held Memrd w = one k _ (record { within = tt; network = inr refl })
-for-outward k n held Memww w = one k _ (record { within = tt; network = inr refl })
-for-outward k n held f w = none k
+for-outward : (k : Shape) (engine : EngineState) (held : Held) (f : Form) → IsWay k held.source held.way
+    → All (IsOutward k) (sends_for k engine held f)
+for-outward k engine held (Inv a) w = invs-below k held (a == 1) (summary_for k engine.directory held) k.caches (omega arith)
+for-outward k engine held (Stwb who state) w = flushes-outward k engine.directory held who state w.cache
+for-outward k engine held (Tr a b) w =
+    transfer_to-outward k held (summary_for k engine.directory held).owner a b w (λ at j. owner-cache k engine.directory held at j)
+for-outward k engine held (Blk state) w = grants-outward k held state engine.core.got w
+for-outward k engine held Wake w = one k _ (record { within = w; network = inl refl })
+for-outward k engine held Ucblk w = word-outward k held engine.core.got w.cache
+for-outward k engine held Ucdone w = one k _ (record { within = w.cache; network = inl refl })
+for-outward k engine held Done w = one k _ (record { within = w.cache; network = inl refl })
+for-outward k engine held Memrd w = one k _ (record { within = tt; network = inr refl })
+for-outward k engine held Memww w = one k _ (record { within = tt; network = inr refl })
+for-outward k engine held f w = none k
 
-held-outward : (k : Shape) (n : EngineState) (o : Option Held) (f : Form) → ((h : Held) → o ≡ Some h → IsWay k h.source h.way)
-    → All (IsOutward k) (sends_held k n o f)
-held-outward k n None f w = none k
-held-outward k n (Some held) f w = for-outward k n held f (w held refl)
+held-outward : (k : Shape) (engine : EngineState) (o : Option Held) (f : Form) → ((h : Held) → o ≡ Some h → IsWay k h.source h.way)
+    → All (IsOutward k) (sends_held k engine o f)
+held-outward k engine None f w = none k
+held-outward k engine (Some held) f w = for-outward k engine held f (w held refl)
 
 -- each message is of the configuration
-pub sends_outward : (k : Shape) (n : EngineState) (f : Form) → IsSound k n.core → All (IsOutward k) (sends k n f)
-sends_outward k n Memwb b = back-outward k n.core.dirty
-sends_outward k n f b = held-outward k n n.core.held f b.held
+pub sends_outward : (k : Shape) (engine : EngineState) (f : Form) → IsSound k engine.core → All (IsOutward k) (sends k engine f)
+sends_outward k engine Memwb b = back-outward k engine.core.dirty
+sends_outward k engine f b = held-outward k engine engine.core.held f b.held
 
 -- so of a list that is what is sent
-pub sent_outward : (k : Shape) (n : EngineState) (f : Form) (sent : List Row) → sent ≡ sends k n f → IsSound k n.core → All (IsOutward k) sent
-sent_outward k n f sent e b = All-same (IsOutward k) sent (sends k n f) e (sends_outward k n f b)
+pub sent_outward : (k : Shape) (engine : EngineState) (f : Form) (sent : List Row) → sent ≡ sends k engine f → IsSound k engine.core
+    → All (IsOutward k) sent
+sent_outward k engine f sent e b = All-same (IsOutward k) sent (sends k engine f) e (sends_outward k engine f b)
 
-choice-within : (k : Shape) (o : Option Head) → ((h : Head) → o ≡ Some h → IsHead k h) → IfSome (choice_of o) (λ choice. choice.source < k.caches)
+choice-within : (k : Shape) (o : Option Head) → ((h : Head) → o ≡ Some h → IsHead k h)
+    → IfSome (choice_of o) (λ choice. choice.source < k.caches)
 choice-within k None b = tt
 choice-within k (Some head) b = (b head refl).source
 
-pops-within : (k : Shape) (n : EngineState) (f : Form) → IsSound k n.core → IfSome (pops n f) (λ choice. choice.source < k.caches)
-pops-within k n (Popq _) b = choice-within k n.core.head b.head
-pops-within k n f b = tt
+pops-within : (k : Shape) (engine : EngineState) (f : Form) → IsSound k engine.core
+    → IfSome (pops engine f) (λ choice. choice.source < k.caches)
+pops-within k engine (Popq _) b = choice-within k engine.core.head b.head
+pops-within k engine f b = tt
 
 -- and so is the head that is popped
-pub popped_within : (k : Shape) (n : EngineState) (f : Form) (popped : Option Choice) → popped ≡ pops n f → IsSound k n.core
+pub popped_within : (k : Shape) (engine : EngineState) (f : Form) (popped : Option Choice) → popped ≡ pops engine f
+    → IsSound k engine.core
     → IfSome popped (λ choice. choice.source < k.caches)
-popped_within k n f popped e b = subst (λ (o : Option Choice). IfSome o (λ choice. choice.source < k.caches)) (sym e) (pops-within k n f b)
+popped_within k engine f popped e b =
+    subst (λ (o : Option Choice). IfSome o (λ choice. choice.source < k.caches)) (sym e) (pops-within k engine f b)

@@ -6,6 +6,7 @@ use Rattle.bk_base.specs.declared.coh.Coh.{Coh}
 use Rattle.bk_base.specs.declared.coh.Coh.TheVariants.{I}
 use Rattle.bk_isa.specs.declared.form.Form.{Form}
 use Rattle.bk_isa.specs.declared.form.Form.TheVariants.{Add, Sub, And, Or, Xor, Shl, Shr, Addi, Not, Neg, Mov, Movi, Mova, Movs, Movw, Movk, Sf, Cf, Nf, Movf, Andf, Orf, Rdw, Gad, Wde, Wds, Fin, Wfq, Popq, Defer, Inv, Stwb, Memwb}
+use Rattle.bk_isa.specs.declared.operand.TheConstants.{WHOSE_OWN, WHOSE_OWNER, WITH_MARK, WITH_OWNER}
 use Rattle.bk_msg.specs.declared.row.Row.{Row}
 use Rattle.bk_msg.specs.declared.row.Row.TheVariants as rows
 use Rattle.bk_msg.specs.Networks.{address_of}
@@ -13,162 +14,186 @@ use Rattle.bk_dir.specs.declared.entry.Entry.{Entry}
 use Rattle.bk_dir.specs.declared.entry.Summary.{Summary}
 use Rattle.bk_dir.specs.Contents.{Contents, with_entry, with_state, with_pending}
 use Rattle.bk_dir.specs.Summaries.{holds}
+use Rattle.bk_engine.specs.declared.heads.TheConstants.{HEAD_REQUEST, HEAD_BLOCK}
+use Rattle.bk_engine.specs.declared.parts.TheConstants.{NOT_READ, ROW_READ, SUMMED_UP}
 use Rattle.bk_engine.specs.declared.parts.Choice.{Choice}
 use Rattle.bk_engine.specs.declared.parts.Core.{Core}
 use Rattle.bk_engine.specs.declared.parts.Head.{Head}
 use Rattle.bk_engine.specs.declared.parts.Held.{Held}
-use Rattle.bk_engine.specs.Core.{EngineState}
+use Rattle.bk_engine.specs.Engine.{EngineState}
 use Rattle.bk_engine.specs.Heads.{head_number, request_of}
-use Rattle.bk_engine.specs.Reads.{register, flag, summary_for, goes, target}
+use Rattle.bk_engine.specs.Reads.{register, flag, summary_for, is_branch_taken, target}
 use Rattle.bk_engine.specs.Sends.{is_invalidated, sends}
 
 -- REGISTERS, modulo 2^64
 
 abbrev pub with_register : Core → ℕ → ℕ → Core
-with_register e a value = record e { registers = slice_set e.registers a value }
+with_register core a value = record core { registers = slice_set core.registers a value }
 
-abbrev pub arithmetic : Core → Form → Core
-arithmetic e (Add a b c) = with_register e a ((register e b + register e c) % 2 ^ 64)
-arithmetic e (Sub a b c) = with_register e a ((register e b + (2 ^ 64 - register e c)) % 2 ^ 64)
-arithmetic e (And a b c) = with_register e a (bit_and (register e b) (register e c))
-arithmetic e (Or a b c) = with_register e a (bit_or (register e b) (register e c))
-arithmetic e (Xor a b c) = with_register e a (bit_xor (register e b) (register e c))
-arithmetic e (Shl a b imm) = with_register e a (register e b * 2 ^ imm % 2 ^ 64)
-arithmetic e (Shr a b imm) = with_register e a (register e b / 2 ^ imm)
-arithmetic e (Addi a b imm) = with_register e a ((register e b + imm) % 2 ^ 64)
-arithmetic e f = e
+abbrev pub after_arithmetic : Core → Form → Core
+after_arithmetic core (Add a b c) = with_register core a ((register core b + register core c) % 2 ^ 64)
+after_arithmetic core (Sub a b c) = with_register core a ((register core b + (2 ^ 64 - register core c)) % 2 ^ 64)
+after_arithmetic core (And a b c) = with_register core a (bit_and (register core b) (register core c))
+after_arithmetic core (Or a b c) = with_register core a (bit_or (register core b) (register core c))
+after_arithmetic core (Xor a b c) = with_register core a (bit_xor (register core b) (register core c))
+after_arithmetic core (Shl a b imm) = with_register core a (register core b * 2 ^ imm % 2 ^ 64)
+after_arithmetic core (Shr a b imm) = with_register core a (register core b / 2 ^ imm)
+after_arithmetic core (Addi a b imm) = with_register core a ((register core b + imm) % 2 ^ 64)
+after_arithmetic core f = core
 
 -- `movk` reads the acks
-abbrev pub moves : Core → Form → Core
-moves e (Not a b) = with_register e a (2 ^ 64 - 1 - register e b)
-moves e (Neg a b) = with_register e a ((2 ^ 64 - register e b) % 2 ^ 64)
-moves e (Mov a b) = with_register e a (register e b)
-moves e (Movi a imm) = with_register e a imm
-moves e (Movk a) = with_register e a e.acks
-moves e f = arithmetic e f
+abbrev pub after_move : Core → Form → Core
+after_move core (Not a b) = with_register core a (2 ^ 64 - 1 - register core b)
+after_move core (Neg a b) = with_register core a ((2 ^ 64 - register core b) % 2 ^ 64)
+after_move core (Mov a b) = with_register core a (register core b)
+after_move core (Movi a imm) = with_register core a imm
+after_move core (Movk a) = with_register core a core.acks
+after_move core f = after_arithmetic core f
 
 -- `mova`, `movs` and `movw` read the request's address, source and way
-abbrev pub reads_held : Core → Held → Form → Core
-reads_held e held (Mova a) = with_register e a held.addr
-reads_held e held (Movs a) = with_register e a held.source
-reads_held e held (Movw a) = with_register e a held.way
-reads_held e held f = e
+abbrev pub after_held_read : Core → Held → Form → Core
+after_held_read core held (Mova a) = with_register core a held.addr
+after_held_read core held (Movs a) = with_register core a held.source
+after_held_read core held (Movw a) = with_register core a held.way
+after_held_read core held f = core
 
-abbrev pub reads_request : Core → Option Held → Form → Core
-reads_request e None f = e
-reads_request e (Some held) f = reads_held e held f
+abbrev pub after_request_read : Core → Option Held → Form → Core
+after_request_read core None f = core
+after_request_read core (Some held) f = after_held_read core held f
 
 -- FLAGS
 
 abbrev pub with_flag : Core → ℕ → Bool → Core
-with_flag e a value = record e { flags = slice_set e.flags a value }
+with_flag core a value = record core { flags = slice_set core.flags a value }
 
-abbrev pub flags_set : Core → Form → Core
-flags_set e (Sf a) = with_flag e a true
-flags_set e (Cf a) = with_flag e a false
-flags_set e (Nf a) = with_flag e a (not (flag e a))
-flags_set e (Movf a b) = with_flag e a (flag e b)
-flags_set e (Andf a b) = with_flag e a (flag e a && flag e b)
-flags_set e (Orf a b) = with_flag e a (flag e a || flag e b)
-flags_set e f = moves e f
+abbrev pub after_flag : Core → Form → Core
+after_flag core (Sf a) = with_flag core a true
+after_flag core (Cf a) = with_flag core a false
+after_flag core (Nf a) = with_flag core a (not (flag core a))
+after_flag core (Movf a b) = with_flag core a (flag core b)
+after_flag core (Andf a b) = with_flag core a (flag core a && flag core b)
+after_flag core (Orf a b) = with_flag core a (flag core a || flag core b)
+after_flag core f = after_move core f
 
 -- QUEUES
 
 -- a request that is popped becomes the held one; an answer is counted or kept
-abbrev pub took : Core → Option Held → Row → Core
-took e (Some held) m = record e { held = Some held }
-took e None (rows.InvAck _ _ _) = record e { acks = e.acks - 1 }
-took e None (rows.Wb _ _ addr words) = record e { dirty = Some (record { addr = addr; words = words }) }
-took e None (rows.Block _ _ _ words) = record e { got = Some words }
-took e None m = e
+abbrev pub after_take : Core → Option Held → Row → Core
+after_take core (Some held) m = record core { held = Some held }
+after_take core None (rows.InvAck _ _ _) = record core { acks = core.acks - 1 }
+after_take core None (rows.Wb _ _ addr words) = record core { dirty = Some (record { addr = addr; words = words }) }
+after_take core None (rows.Block _ _ _ words) = record core { got = Some words }
+after_take core None m = core
 
-abbrev pub popped : Core → Option Head → Core
-popped e None = e
-popped e (Some head) = took (record e { head = None }) (request_of head.choice.source head.message) head.message
+abbrev pub after_pop : Core → Option Head → Core
+after_pop core None = core
+after_pop core (Some head) = after_take (record core { head = None }) (request_of head.choice.source head.message) head.message
 
-abbrev pub waited : Core → Choice → Option Row → Core
-waited e choice None = e
-waited e choice (Some message) = record e { head = Some (record { choice = choice; message = message }) }
+abbrev pub after_wait : Core → Choice → Option Row → Core
+after_wait core choice None = core
+after_wait core choice (Some message) = record core { head = Some (record { choice = choice; message = message }) }
 
 -- THE REQUEST
 
 -- `inv` counts the invalidations that are sent, modulo 2^64
-abbrev pub serves : Core → ℕ → Form → Core
-serves e sent Rdw = record e { summ = 1 }
-serves e sent Gad = record e { summ = 2 }
-serves e sent Fin = record e { held = None; summ = 0; got = None }
-serves e sent (Inv _) = record e { acks = (e.acks + sent) % 2 ^ 64 }
-serves e sent Memwb = record e { dirty = None }
-serves e sent (Mova a) = reads_request e e.held (Mova a)
-serves e sent (Movs a) = reads_request e e.held (Movs a)
-serves e sent (Movw a) = reads_request e e.held (Movw a)
-serves e sent f = flags_set e f
+abbrev pub after_service : Core → ℕ → Form → Core
+after_service core sent Rdw = record core { summ = ROW_READ }
+after_service core sent Gad = record core { summ = SUMMED_UP }
+after_service core sent Fin = record core { held = None; summ = NOT_READ; got = None }
+after_service core sent (Inv _) = record core { acks = (core.acks + sent) % 2 ^ 64 }
+after_service core sent Memwb = record core { dirty = None }
+after_service core sent (Mova a) = after_request_read core core.held (Mova a)
+after_service core sent (Movs a) = after_request_read core core.held (Movs a)
+after_service core sent (Movw a) = after_request_read core core.held (Movw a)
+after_service core sent f = after_flag core f
 
 -- the engine but for its place, where the instruction sends so many messages
-abbrev pub core_changed : Core → ℕ → Form → Choice → Option Row → Core
-core_changed e sent (Wfq _) choice message = waited e choice message
-core_changed e sent (Popq _) choice message = popped e e.head
-core_changed e sent Defer choice message = record e { head = None }
-core_changed e sent f choice message = serves e sent f
+abbrev pub core_but_place : Core → ℕ → Form → Choice → Option Row → Core
+core_but_place core sent (Wfq _) choice message = after_wait core choice message
+core_but_place core sent (Popq _) choice message = after_pop core core.head
+core_but_place core sent Defer choice message = record core { head = None }
+core_but_place core sent f choice message = after_service core sent f
 
 -- a branch that is taken goes to its target, else the next place comes
 abbrev pub next_place : Shape → EngineState → Form → ℕ
-next_place k n f = if goes k n f then target f else n.core.place + 1
+next_place k engine f = if is_branch_taken k engine f then target f else engine.core.place + 1
 
 abbrev pub core_after : Shape → EngineState → Form → Choice → Option Row → Core
-core_after k n f choice message = record (core_changed n.core (length (sends k n f)) f choice message) { place = next_place k n f }
+core_after k engine f choice message =
+    record (core_but_place engine.core (length (sends k engine f)) f choice message) { place = next_place k engine f }
 
 -- THE DIRECTORY
 
 -- in I, where it holds the block
-abbrev pub wiped : ℕ → Entry → Entry
-wiped tag entry = if holds entry tag then record entry { state = I } else entry
+abbrev pub wiped_entry : ℕ → Entry → Entry
+wiped_entry tag entry = if holds entry tag then record entry { state = I } else entry
 
 -- the same at each way of the configuration
-abbrev pub wiped_at : Shape → ℕ → (ℕ → Entry) → ℕ → Entry
-wiped_at k tag entries w = if nat_lt w k.ways then wiped tag (entries w) else entries w
+abbrev pub wiped_ways : Shape → ℕ → (ℕ → Entry) → ℕ → Entry
+wiped_ways k tag entries w = if nat_lt w k.ways then wiped_entry tag (entries w) else entries w
 
 -- each entry of the block of a cache that is sent an Inv
-abbrev pub invalidates : Shape → Contents → Held → Bool → Summary → Contents
-invalidates k d held with_owner s = record d {
-  entries = λ c. if is_invalidated with_owner s c
-      then put (d.entries c) (group_of k held.addr) (wiped_at k (tag_at k held.addr) (d.entries c (group_of k held.addr)))
+abbrev pub with_invalid_block : Shape → Contents → Held → Bool → Summary → Contents
+with_invalid_block k d held with_owner summary = record d {
+  entries = λ c. if is_invalidated with_owner summary c
+      then put (d.entries c) (group_of k held.addr) (wiped_ways k (tag_at k held.addr) (d.entries c (group_of k held.addr)))
       else d.entries c;
 }
 
-abbrev pub state_written : Contents → ℕ → Option (ℕ × ℕ) → Coh → Contents
-state_written d s None state = d
-state_written d s (Some at) state = with_state d at.0 s at.1 state
+abbrev pub with_state_at : Contents → ℕ → Option (ℕ × ℕ) → Coh → Contents
+with_state_at d set None state = d
+with_state_at d set (Some at) state = with_state d at.0 set at.1 state
 
--- 0 is the requester's own entry, 1 the owner's, 2 the victim
-abbrev pub named_written : Shape → Contents → Held → ℕ → Coh → Contents
-named_written k d held who state =
-    if who == 0 then with_state d held.source (group_of k held.addr) (summary_for k d held).own_way state
-    else if who == 1 then state_written d (group_of k held.addr) (summary_for k d held).owner state
+-- the requester's own entry, the owner's, or the victim
+abbrev pub with_named_state : Shape → Contents → Held → ℕ → Coh → Contents
+with_named_state k d held who state =
+    if who == WHOSE_OWN then with_state d held.source (group_of k held.addr) (summary_for k d held).own_way state
+    else if who == WHOSE_OWNER then with_state_at d (group_of k held.addr) (summary_for k d held).owner state
     else with_state d held.source (group_of k held.addr) held.way state
 
 abbrev pub directory_for : Shape → Contents → Held → Form → Contents
-directory_for k d held (Wde state) = with_entry d held.source (group_of k held.addr) held.way (record { tag = tag_at k held.addr; state = state })
-directory_for k d held (Wds who state) = named_written k d held who state
-directory_for k d held (Inv a) = invalidates k d held (a == 1) (summary_for k d held)
-directory_for k d held (Stwb who state) = named_written k d held who state
+directory_for k d held (Wde state) =
+    with_entry d held.source (group_of k held.addr) held.way (record { tag = tag_at k held.addr; state = state })
+directory_for k d held (Wds who state) = with_named_state k d held who state
+directory_for k d held (Inv a) = with_invalid_block k d held (a == WITH_OWNER) (summary_for k d held)
+directory_for k d held (Stwb who state) = with_named_state k d held who state
 directory_for k d held f = d
 
-abbrev pub directory_held : Shape → Contents → Option Held → Form → Contents
-directory_held k d None f = d
-directory_held k d (Some held) f = directory_for k d held f
+abbrev pub directory_for_held : Shape → Contents → Option Held → Form → Contents
+directory_for_held k d None f = d
+directory_for_held k d (Some held) f = directory_for k d held f
 
--- `popq wp`: a request that is popped sets its group's pending bit, an answer of a cache clears it, a Block leaves it
-abbrev pub message_marked : Shape → Contents → ℕ → Row → Contents
-message_marked k d kind m =
-    if kind == 1 then with_pending d (group_of k (address_of m)) true
-    else if nat_lt 1 kind && nat_lt kind 6 then with_pending d (group_of k (address_of m)) false
+-- `popq wp`: a request that is popped sets its group's pending bit, an answer of a cache, whose values stand between, clears it, a Block
+-- leaves it
+abbrev pub with_message_mark : Shape → Contents → ℕ → Row → Contents
+with_message_mark k d kind m =
+    if kind == HEAD_REQUEST then with_pending d (group_of k (address_of m)) true
+    else if nat_lt HEAD_REQUEST kind && nat_lt kind HEAD_BLOCK then with_pending d (group_of k (address_of m)) false
     else d
 
-abbrev pub head_marked : Shape → Contents → Option Head → Contents
-head_marked k d None = d
-head_marked k d (Some head) = message_marked k d (head_number head.message) head.message
+abbrev pub with_head_mark : Shape → Contents → Option Head → Contents
+with_head_mark k d None = d
+with_head_mark k d (Some head) = with_message_mark k d (head_number head.message) head.message
 
 abbrev pub directory_after : Shape → EngineState → Form → Contents
-directory_after k n (Popq wp) = if wp == 1 then head_marked k n.directory n.core.head else n.directory
-directory_after k n f = directory_held k n.directory n.core.held f
+directory_after k engine (Popq wp) = if wp == WITH_MARK then with_head_mark k engine.directory engine.core.head else engine.directory
+directory_after k engine f = directory_for_held k engine.directory engine.core.held f
+
+-- HOW THE INVALIDATED ENTRIES ARE WIPED, one way and one cache after the other
+
+-- the entries of a block of a cache, at each way of the configuration
+abbrev pub with_wiped_ways : Shape → Contents → ℕ → ℕ → ℕ → Contents
+with_wiped_ways k d c set tag = record d { entries = put d.entries c (put (d.entries c) set (wiped_ways k tag (d.entries c set))) }
+
+-- the same at the ways below n alone
+abbrev pub wiped_ways_below : ℕ → ℕ → (ℕ → Entry) → ℕ → Entry
+wiped_ways_below n tag entries w = if nat_lt w n then wiped_entry tag (entries w) else entries w
+
+abbrev pub with_wiped_ways_below : ℕ → Contents → ℕ → ℕ → ℕ → Contents
+with_wiped_ways_below n d c set tag =
+    record d { entries = put d.entries c (put (d.entries c) set (wiped_ways_below n tag (d.entries c set))) }
+
+-- the entries of a block, of each cache below n that is chosen
+abbrev pub with_wiped_caches_below : Shape → ℕ → (ℕ → Bool) → Contents → ℕ → ℕ → Contents
+with_wiped_caches_below k n chosen d set tag =
+    record d { entries = λ c. if nat_lt c n && chosen c then put (d.entries c) set (wiped_ways k tag (d.entries c set)) else d.entries c }

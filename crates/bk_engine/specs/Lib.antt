@@ -1,15 +1,8 @@
 pub mod Changes
-pub mod Core
-pub mod EngineOf
-pub mod Engines
+pub mod Engine
 pub mod Heads
-pub mod Into
-pub mod Kept
 pub mod Laws
-pub mod Outward
-pub mod Ranges
 pub mod Reads
 pub mod Sends
 pub mod Step
 pub mod Stops
-pub mod Wiping

@@ -1,29 +1,36 @@
 -- What the engine reads: the directory for the held request, registers and flags, and the fields that `bk` asks for.
-use Rattle.std.specs.Prelude.{ℕ, ◌-◌, Bool, true, false, not, ◌==◌, nat_lt, if◌then◌else◌, Option, Some, None, is_some, slice_index, slice_index_or}
+use Rattle.std.specs.Prelude.{ℕ, ◌-◌, Bool, true, false, not, ◌||◌, ◌==◌, nat_lt, if◌then◌else◌, Option, Some, None, is_some, slice_index, slice_index_or}
 use Rattle.bk_base.specs.Places.{Shape, group_of, tag_at}
 use Rattle.bk_base.specs.States.{is_readable}
 use Rattle.bk_base.specs.declared.coh.Coh.{Coh}
 use Rattle.bk_base.specs.declared.coh.Coh.TheVariants.{I, S, E, F, M, O}
 use Rattle.bk_msg.specs.Networks.{address_of}
-use Rattle.bk_dir.specs.declared.entry.Asked.{Asked}
+use Rattle.bk_dir.specs.declared.entry.Query.{Query}
 use Rattle.bk_dir.specs.declared.entry.Summary.{Summary}
 use Rattle.bk_dir.specs.Contents.{Contents}
 use Rattle.bk_dir.specs.Summaries.{summary}
+use Rattle.bk_isa.specs.declared.operand.TheConstants.{FIELD_HEAD, FIELD_GP, FIELD_KIND, FIELD_OWN, FIELD_OWNER, FIELD_OTHERS, FIELD_VICTIM, FIELD_ACKS, FIELD_F0}
 use Rattle.bk_isa.specs.declared.form.Form.{Form}
 use Rattle.bk_isa.specs.declared.form.Form.TheVariants.{Bi, Beq, Bne, Blt, Bge, Bk}
 use Rattle.bk_engine.specs.declared.parts.Core.{Core}
 use Rattle.bk_engine.specs.declared.parts.Head.{Head}
 use Rattle.bk_engine.specs.declared.parts.Held.{Held}
-use Rattle.bk_engine.specs.Core.{EngineState}
+use Rattle.bk_engine.specs.Engine.{EngineState}
 use Rattle.bk_engine.specs.Heads.{head_value, kind_number, is_placed, has_value}
 
 -- THE DIRECTORY, as it is at the moment, for the held request
 
-abbrev pub asked_of : Shape → Held → Asked
-asked_of k held = record { cache = held.source; set = group_of k held.addr; tag = tag_at k held.addr; way = held.way; placed = is_placed held.kind }
+abbrev pub query_of : Shape → Held → Query
+query_of k held = record {
+  cache = held.source;
+  set = group_of k held.addr;
+  tag = tag_at k held.addr;
+  way = held.way;
+  placed = is_placed held.kind;
+}
 
 abbrev pub summary_for : Shape → Contents → Held → Summary
-summary_for k d held = summary k d (asked_of k held)
+summary_for k d held = summary k d (query_of k held)
 
 -- a flush takes the block out of E, M and O: such a victim is heavy
 abbrev pub is_heavy : Coh → Bool
@@ -50,27 +57,27 @@ has_victim k d (Some held) = is_readable (summary_for k d held).victim
 -- REGISTERS AND FLAGS
 
 abbrev pub register : Core → ℕ → ℕ
-register e a = slice_index e.registers a
+register core a = slice_index core.registers a
 
 abbrev pub flag : Core → ℕ → Bool
-flag e a = slice_index_or e.flags a false
+flag core a = slice_index_or core.flags a false
 
--- THE FIELDS OF `bk`, each by the number of its value
+-- THE FIELDS OF `bk`: the value of each, as a number
 
 abbrev pub number_of : Bool → ℕ
 number_of b = if b then 1 else 0
 
--- field 3: whether the head's group is pending
+-- gp: whether the head's group is pending
 abbrev pub gp_value : Shape → Contents → Option Head → ℕ
 gp_value k d None = 0
 gp_value k d (Some head) = number_of (d.pending (group_of k (address_of head.message)))
 
--- field 4: the request's kind
+-- kind: the request's
 abbrev pub kind_value : Option Held → ℕ
 kind_value None = 0
 kind_value (Some held) = kind_number held.kind
 
--- field 6: own, in the order I, S, E, F, M, O
+-- own, in the order I, S, E, F, M, O
 abbrev pub own_number : Coh → ℕ
 own_number I = 0
 own_number S = 1
@@ -79,7 +86,7 @@ own_number F = 3
 own_number M = 4
 own_number O = 5
 
--- field 7: owner, in the order none, E, F, M, O
+-- owner, in the order none, E, F, M, O
 abbrev pub owner_number : Coh → ℕ
 owner_number I = 0
 owner_number S = 0
@@ -88,39 +95,43 @@ owner_number F = 2
 owner_number M = 3
 owner_number O = 4
 
--- field 8 is others, no or yes; field 9 is victim, light or heavy
+-- the fields that a summary tells
+abbrev pub is_of_summary : ℕ → Bool
+is_of_summary field = field == FIELD_OWN || field == FIELD_OWNER || field == FIELD_OTHERS || field == FIELD_VICTIM
+
+-- others is no or yes; victim is light or heavy
 abbrev pub summary_value : Summary → ℕ → ℕ
-summary_value s field =
-    if field == 6 then own_number s.own
-    else if field == 7 then owner_number s.owner_state
-    else if field == 8 then number_of (nat_lt 0 s.others)
-    else number_of (is_heavy s.victim)
+summary_value summary field =
+    if field == FIELD_OWN then own_number summary.own
+    else if field == FIELD_OWNER then owner_number summary.owner_state
+    else if field == FIELD_OTHERS then number_of (nat_lt 0 summary.others)
+    else number_of (is_heavy summary.victim)
 
 abbrev pub held_value : Shape → Contents → Option Held → ℕ → ℕ
 held_value k d None field = 0
 held_value k d (Some held) field = summary_value (summary_for k d held) field
 
--- field 2 is the head, 10 whether acks are to come, 15 to 18 the flags
+-- the head's is that of its message; acks say whether some are to come; flags stand from FIELD_F0 on
 abbrev pub field_value : Shape → EngineState → ℕ → ℕ
-field_value k n field =
-    if field == 2 then head_value n.core.head
-    else if field == 3 then gp_value k n.directory n.core.head
-    else if field == 4 then kind_value n.core.held
-    else if field == 10 then number_of (nat_lt 0 n.core.acks)
-    else if nat_lt 14 field then number_of (flag n.core (field - 15))
-    else held_value k n.directory n.core.held field
+field_value k engine field =
+    if field == FIELD_HEAD then head_value engine.core.head
+    else if field == FIELD_GP then gp_value k engine.directory engine.core.head
+    else if field == FIELD_KIND then kind_value engine.core.held
+    else if field == FIELD_ACKS then number_of (nat_lt 0 engine.core.acks)
+    else if nat_lt field FIELD_F0 then held_value k engine.directory engine.core.held field
+    else number_of (flag engine.core (field - FIELD_F0))
 
 -- BRANCHES
 
 -- whether a branch is taken
-abbrev pub goes : Shape → EngineState → Form → Bool
-goes k n (Bi _) = true
-goes k n (Beq a b _) = register n.core a == register n.core b
-goes k n (Bne a b _) = not (register n.core a == register n.core b)
-goes k n (Blt a b _) = nat_lt (register n.core a) (register n.core b)
-goes k n (Bge a b _) = not (nat_lt (register n.core a) (register n.core b))
-goes k n (Bk field set _) = has_value set (field_value k n field)
-goes k n f = false
+abbrev pub is_branch_taken : Shape → EngineState → Form → Bool
+is_branch_taken k engine (Bi _) = true
+is_branch_taken k engine (Beq a b _) = register engine.core a == register engine.core b
+is_branch_taken k engine (Bne a b _) = not (register engine.core a == register engine.core b)
+is_branch_taken k engine (Blt a b _) = nat_lt (register engine.core a) (register engine.core b)
+is_branch_taken k engine (Bge a b _) = not (nat_lt (register engine.core a) (register engine.core b))
+is_branch_taken k engine (Bk field set _) = has_value set (field_value k engine field)
+is_branch_taken k engine f = false
 
 -- where it goes
 abbrev pub target : Form → ℕ

@@ -1,17 +1,17 @@
 ghost use Rattle.std.specs.Prelude.{◌≡◌, ◌<◌};
 ghost use Rattle.std.specs.Option.{option_copied};
 ghost use Rattle.bk_isa.specs.Operands.{Operands};
-ghost use Rattle.bk_engine.specs.Changes.{took, popped, waited, serves, core_changed};
+ghost use Rattle.bk_engine.specs.Changes.{after_take, after_pop, after_wait, after_service, core_but_place};
 
 use crate::heads::request_of;
-use crate::parts::{Choice, Core, Head, Held, Kept};
+use crate::parts::{Choice, Core, DirtyBlock, Head, Held, NOT_READ, ROW_READ, SUMMED_UP};
 use crate::registers::{flags_set, reads_request};
 use bk_isa::Form;
 use bk_msg::{Message, Row};
 
 /// Keeps or counts what was popped.
 fn take(core: &mut Core, request: Option<Held>, message: &Row)
-    ensures { core.new ≡ took core.old request message.now }
+    ensures { core.new ≡ after_take core.old request message.now }
 {
     if let Some(held) = request {
         core.held = Some(held);
@@ -20,7 +20,7 @@ fn take(core: &mut Core, request: Option<Held>, message: &Row)
     match message {
         Row::InvAck { .. } => core.acks = core.acks.saturating_sub(1),
         Row::Wb { addr, words, .. } => {
-            core.dirty = Some(Kept {
+            core.dirty = Some(DirtyBlock {
                 addr: *addr,
                 words: *words,
             })
@@ -31,7 +31,7 @@ fn take(core: &mut Core, request: Option<Held>, message: &Row)
 }
 
 fn pop(core: &mut Core)
-    ensures { core.new ≡ popped core.old core.old.head }
+    ensures { core.new ≡ after_pop core.old core.old.head }
 {
     let Some(head) = core.head.take() else {
         return;
@@ -42,7 +42,7 @@ fn pop(core: &mut Core)
 }
 
 fn wait(core: &mut Core, choice: Choice, message: Option<&Message>)
-    ensures { core.new ≡ waited core.old choice (option_copied message.entry) }
+    ensures { core.new ≡ after_wait core.old choice (option_copied message.entry) }
 {
     if let Some(message) = message {
         core.head = Some(Head {
@@ -55,14 +55,14 @@ fn wait(core: &mut Core, choice: Choice, message: Option<&Message>)
 /// What the instructions on the request do, and those on flags and registers.
 fn serve(core: &mut Core, sent: usize, form: Form)
     requires { Operands form }
-    ensures { core.new ≡ serves core.old sent form }
+    ensures { core.new ≡ after_service core.old sent form }
 {
     match form {
-        Form::Rdw => core.summ = 1,
-        Form::Gad => core.summ = 2,
+        Form::Rdw => core.summ = ROW_READ,
+        Form::Gad => core.summ = SUMMED_UP,
         Form::Fin => {
             core.held = None;
-            core.summ = 0;
+            core.summ = NOT_READ;
             core.got = None;
         }
         Form::Inv { .. } => core.acks = core.acks.wrapping_add(sent as u64),
@@ -83,7 +83,7 @@ pub(crate) fn change_core(
     message: Option<&Message>,
 )
     requires { Operands form }
-    ensures { core.new ≡ core_changed core.old sent form choice (option_copied message.entry) }
+    ensures { core.new ≡ core_but_place core.old sent form choice (option_copied message.entry) }
 {
     match form {
         Form::Wfq { .. } => wait(core, choice, message),

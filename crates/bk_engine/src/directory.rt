@@ -3,24 +3,23 @@ ghost use Rattle.bk_base.specs.Places.{group_of, tag_at, tag_limit};
 ghost use Rattle.bk_msg.specs.Within.{IsWay};
 ghost use Rattle.bk_dir.specs.Contents.{with_entry};
 ghost use Rattle.bk_dir.specs.Directories.{contents_of};
-ghost use Rattle.bk_engine.specs.Heads.{head_number};
-ghost use Rattle.bk_engine.specs.EngineOf.{engine_of};
-ghost use Rattle.bk_engine.specs.Kept.{IsSound};
-ghost use Rattle.bk_engine.specs.Changes.{wiped, invalidates, state_written, named_written, directory_for, directory_held, message_marked, head_marked, directory_after};
-ghost use Rattle.bk_engine.specs.Wiping.{ways_wiped};
+ghost use Rattle.bk_engine.specs.Heads.{head_number, IsSound};
+ghost use Rattle.bk_engine.specs.Engine.{engine_of};
+ghost use Rattle.bk_engine.specs.Changes.{wiped_entry, with_invalid_block, with_state_at, with_named_state, directory_for, directory_for_held, with_message_mark, with_head_mark, directory_after, with_wiped_ways};
 
-use crate::heads::{INV_ACK, NULL_WB, REQUEST, head_number};
+use crate::heads::{HEAD_INV_ACK, HEAD_NULL_WB, HEAD_REQUEST, head_number};
 use crate::parts::{Core, Head, Held};
 use crate::reads::summary_for;
 use crate::sends::is_invalidated;
 use bk_base::{Coh, Config, group_of, tag_at};
 use bk_dir::{Directory, Entry, Summary};
 use bk_isa::Form;
+use bk_isa::operand::{WHOSE_OWN, WHOSE_OWNER, WITH_MARK, WITH_OWNER};
 use bk_msg::Row;
 
 /// An entry in state `I`, where it holds the block with a tag.
-fn wiped(tag: u64, entry: Entry) -> Entry
-    ensures value { result ≡ wiped tag entry }
+fn wiped_entry(tag: u64, entry: Entry) -> Entry
+    ensures value { result ≡ wiped_entry tag entry }
     ensures tag { result.tag ≡ entry.tag }
 {
     if entry.state.readable() && entry.tag == tag {
@@ -38,12 +37,12 @@ fn wipe_ways(config: Config, directory: &mut Directory, cache: u8, set: u8, tag:
     requires config { directory.old.config ≡ config }
     requires cache { cache < config.caches }
     requires set { set < config.sets }
-    ensures state { contents_of directory.new ≡ ways_wiped config (contents_of directory.old) cache set tag }
+    ensures state { contents_of directory.new ≡ with_wiped_ways config (contents_of directory.old) cache set tag }
     ensures config { directory.new.config ≡ config }
 {
     for way in 0..config.ways {
         let entry = directory.entry(cache, set, way);
-        directory.write_entry(cache, set, way, wiped(tag, entry));
+        directory.write_entry(cache, set, way, wiped_entry(tag, entry));
     }
 }
 
@@ -59,7 +58,7 @@ fn invalidate(
     requires few { config.caches ≤ 8 }
     requires others { summary.now.others < 2 ^ config.caches }
     requires owner { IfSome summary.now.owner (λ at. at.0 < config.caches) }
-    ensures state { contents_of directory.new ≡ invalidates config (contents_of directory.old) held.now with_owner summary.now }
+    ensures state { contents_of directory.new ≡ with_invalid_block config (contents_of directory.old) held.now with_owner summary.now }
     ensures config { directory.new.config ≡ config }
 {
     let group = group_of(config, held.addr);
@@ -74,7 +73,7 @@ fn invalidate(
 fn write_state(directory: &mut Directory, set: u8, at: Option<(u8, u8)>, state: Coh)
     requires set { set < directory.old.config.sets }
     requires at { IfSome at (λ a. (a.0 < directory.old.config.caches) × (a.1 < directory.old.config.ways)) }
-    ensures state { contents_of directory.new ≡ state_written (contents_of directory.old) set at state }
+    ensures state { contents_of directory.new ≡ with_state_at (contents_of directory.old) set at state }
     ensures config { directory.new.config ≡ directory.old.config }
 {
     match at {
@@ -83,20 +82,20 @@ fn write_state(directory: &mut Directory, set: u8, at: Option<(u8, u8)>, state: 
     }
 }
 
-/// Writes the state of an entry: the requester's own (0), the owner's (1), the victim's (2).
+/// Writes the state of an entry: the requester's own, the owner's, or the victim's.
 fn write_named(config: Config, directory: &mut Directory, held: &Held, who: u8, state: Coh)
     requires config { directory.old.config ≡ config }
     requires way { IsWay config held.now.source held.now.way }
-    ensures state { contents_of directory.new ≡ named_written config (contents_of directory.old) held.now who state }
+    ensures state { contents_of directory.new ≡ with_named_state config (contents_of directory.old) held.now who state }
     ensures config { directory.new.config ≡ config }
 {
     let group = group_of(config, held.addr);
     match who {
-        0 => {
+        WHOSE_OWN => {
             let way = summary_for(config, directory, held).own_way;
             directory.write_state(held.source, group, way, state);
         }
-        1 => {
+        WHOSE_OWNER => {
             let owner = summary_for(config, directory, held).owner;
             write_state(directory, group, owner, state);
         }
@@ -129,7 +128,7 @@ fn change_for(config: Config, directory: &mut Directory, held: &Held, form: Form
         Form::Wds { a, b } => write_named(config, directory, held, a, b),
         Form::Inv { a } => {
             let summary = summary_for(config, directory, held);
-            invalidate(config, directory, held, a == 1, &summary);
+            invalidate(config, directory, held, a == WITH_OWNER, &summary);
         }
         Form::Stwb { a, b } => write_named(config, directory, held, a, b),
         _ => (),
@@ -139,7 +138,7 @@ fn change_for(config: Config, directory: &mut Directory, held: &Held, form: Form
 fn change_held(config: Config, core: &Core, directory: &mut Directory, form: Form)
     requires config { directory.old.config ≡ config }
     requires sound { IsSound config core.now }
-    ensures state { contents_of directory.new ≡ directory_held config (contents_of directory.old) core.now.held form }
+    ensures state { contents_of directory.new ≡ directory_for_held config (contents_of directory.old) core.now.held form }
     ensures config { directory.new.config ≡ config }
 {
     match &core.held {
@@ -151,20 +150,21 @@ fn change_held(config: Config, core: &Core, directory: &mut Directory, form: For
 /// Marks the group of a message that is popped: as pending by a request, as pending no more by an answer of a cache.
 fn mark_message(config: Config, directory: &mut Directory, message: &Row)
     requires { directory.old.config ≡ config }
-    ensures state { contents_of directory.new ≡ message_marked config (contents_of directory.old) (head_number message.now) message.now }
+    ensures state { contents_of directory.new
+        ≡ with_message_mark config (contents_of directory.old) (head_number message.now) message.now }
     ensures config { directory.new.config ≡ config }
 {
     let group = group_of(config, message.address());
     match head_number(message) {
-        REQUEST => directory.set_pending(group),
-        INV_ACK..=NULL_WB => directory.clear_pending(group),
+        HEAD_REQUEST => directory.set_pending(group),
+        HEAD_INV_ACK..=HEAD_NULL_WB => directory.clear_pending(group),
         _ => (),
     }
 }
 
 fn mark_head(config: Config, directory: &mut Directory, head: &Option<Head>)
     requires { directory.old.config ≡ config }
-    ensures state { contents_of directory.new ≡ head_marked config (contents_of directory.old) head.now }
+    ensures state { contents_of directory.new ≡ with_head_mark config (contents_of directory.old) head.now }
     ensures config { directory.new.config ≡ config }
 {
     match head {
@@ -182,7 +182,7 @@ pub(crate) fn change_directory(config: Config, core: &Core, directory: &mut Dire
 {
     match form {
         Form::Popq { a } => {
-            if a == 1 {
+            if a == WITH_MARK {
                 mark_head(config, directory, &core.head);
             }
         }

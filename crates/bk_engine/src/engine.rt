@@ -1,5 +1,5 @@
 ghost use Rattle.std.specs.Prelude.{◌≡◌, ◌<◌};
-ghost use Rattle.bk_engine.specs.Kept.{IsSound, IsSound-prop};
+ghost use Rattle.bk_engine.specs.Heads.{IsSound, IsSound-prop};
 
 use crate::parts::{Choice, Core};
 use crate::step::run;
@@ -53,11 +53,8 @@ impl Engine {
     ghost use Rattle.bk_msg.specs.declared.row.Row.{Row};
     ghost use Rattle.bk_msg.specs.Within.{IsWithin};
     ghost use Rattle.bk_dir.specs.Directories.{contents_of};
-    ghost use Rattle.bk_engine.specs.Core.{new_engine};
-    ghost use Rattle.bk_engine.specs.Engines.{state_of, IsStep};
-    ghost use Rattle.bk_engine.specs.Into.{with_sent, SendsWhereRan};
-    ghost use Rattle.bk_engine.specs.Outward.{SendsWithin, PopsWithin};
-    ghost use Rattle.bk_engine.specs.Step.{runs};
+    ghost use Rattle.bk_engine.specs.Engine.{new_engine, state_of};
+    ghost use Rattle.bk_engine.specs.Step.{IsStep, with_sent, SendsWhereRan, SendsWithin, PopsWithin, runs};
 
     /// An engine for a configuration, at its start: it stands at place 0, holds nothing, and its directory is empty.
     ///

@@ -1,52 +1,54 @@
 ghost use Rattle.std.specs.Prelude.{◌≡◌, ◌<◌};
 ghost use Rattle.bk_engine.specs.Heads.{head_number, head_value, request_of, kind_number, is_placed, has_value, names_class};
 
-use crate::parts::{Head, Held, RequestKind};
+use crate::parts::{CLASS_NONE, CLASS_REQUEST, Head, Held, RequestKind};
 use bk_msg::Row;
 
+/// The value of the head where there is none.
+pub const HEAD_NONE: u8 = 0;
 /// The value of a request as a head.
-pub const REQUEST: u8 = 1;
+pub const HEAD_REQUEST: u8 = 1;
 /// The value of an `InvAck` as a head.
-pub const INV_ACK: u8 = 2;
+pub const HEAD_INV_ACK: u8 = 2;
 /// The value of a `CohAck` as a head.
-pub const COH_ACK: u8 = 3;
+pub const HEAD_COH_ACK: u8 = 3;
 /// The value of a `Wb` as a head.
-pub const WB: u8 = 4;
+pub const HEAD_WB: u8 = 4;
 /// The value of a `NullWb` as a head.
-pub const NULL_WB: u8 = 5;
+pub const HEAD_NULL_WB: u8 = 5;
 /// The value of a `Block` as a head.
-pub const BLOCK: u8 = 6;
+pub const HEAD_BLOCK: u8 = 6;
 /// The value of a message that is never a head.
-pub const NO_HEAD: u8 = 7;
+pub const HEAD_OTHER: u8 = 7;
 
-/// The value of a message as a head: `REQUEST`, `INV_ACK`, `COH_ACK`, `WB`, `NULL_WB`, `BLOCK`,
-/// and `NO_HEAD` for what is never one.
+/// The value of a message as a head: `HEAD_REQUEST`, `HEAD_INV_ACK`, `HEAD_COH_ACK`, `HEAD_WB`, `HEAD_NULL_WB`, `HEAD_BLOCK`,
+/// and `HEAD_OTHER` for what is never one.
 pub fn head_number(message: &Row) -> u8
     ensures value { result ≡ head_number message.now }
     ensures small { result < 8 }
 {
     match message {
-        Row::Rd { .. } => REQUEST,
-        Row::Wr { .. } => REQUEST,
-        Row::UcRd { .. } => REQUEST,
-        Row::UcWr { .. } => REQUEST,
-        Row::Evict { .. } => REQUEST,
-        Row::InvAck { .. } => INV_ACK,
-        Row::CohAck { .. } => COH_ACK,
-        Row::Wb { .. } => WB,
-        Row::NullWb { .. } => NULL_WB,
-        Row::Block { .. } => BLOCK,
-        _ => NO_HEAD,
+        Row::Rd { .. } => HEAD_REQUEST,
+        Row::Wr { .. } => HEAD_REQUEST,
+        Row::UcRd { .. } => HEAD_REQUEST,
+        Row::UcWr { .. } => HEAD_REQUEST,
+        Row::Evict { .. } => HEAD_REQUEST,
+        Row::InvAck { .. } => HEAD_INV_ACK,
+        Row::CohAck { .. } => HEAD_COH_ACK,
+        Row::Wb { .. } => HEAD_WB,
+        Row::NullWb { .. } => HEAD_NULL_WB,
+        Row::Block { .. } => HEAD_BLOCK,
+        _ => HEAD_OTHER,
     }
 }
 
-/// The value of the engine's head, 0 where there is none.
+/// The value of the engine's head, `HEAD_NONE` where there is none.
 pub(crate) fn head_value(head: &Option<Head>) -> u8
     ensures value { result ≡ head_value head.now }
     ensures small { result < 8 }
 {
     match head {
-        None => 0,
+        None => HEAD_NONE,
         Some(head) => head_number(&head.message.row()),
     }
 }
@@ -105,5 +107,5 @@ pub(crate) fn has_value(set: u8, value: u8) -> bool
 pub fn names_class(classes: u8, class: u8) -> bool
     ensures { result ≡ names_class classes class }
 {
-    0 < class && class < 4 && has_value(classes, class - 1)
+    CLASS_NONE < class && class <= CLASS_REQUEST && has_value(classes, class - 1)
 }

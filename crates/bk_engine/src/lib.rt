@@ -14,8 +14,14 @@ mod step;
 mod stop;
 
 pub use engine::{Engine, EngineStep, Stepped};
-pub use heads::{COH_ACK, REQUEST, head_number, names_class};
-pub use parts::{Choice, Core, Head, Held, Kept, RequestKind};
+pub use heads::{
+    HEAD_BLOCK, HEAD_COH_ACK, HEAD_INV_ACK, HEAD_NONE, HEAD_NULL_WB, HEAD_OTHER, HEAD_REQUEST,
+    HEAD_WB, head_number, names_class,
+};
+pub use parts::{
+    CLASS_MEMORY, CLASS_NONE, CLASS_REQUEST, CLASS_RESPONSE, Choice, Core, DirtyBlock, Head, Held,
+    NOT_READ, ROW_READ, RequestKind, SUMMED_UP,
+};
 pub use stop::{Halt, Stop};
 
 #[cfg(test)]

@@ -1,12 +1,17 @@
-ghost use Rattle.std.specs.Prelude.{◌≡◌};
-ghost use Rattle.bk_engine.specs.Core.{new_core};
-
 use bk_base::Addr;
 use bk_msg::Message;
 
-/// A channel's head that `wfq` takes: its class and its source.
-/// The classes are 1 for responses, 2 for memory and 3 for requests; memory has source 0.
-/// At other instructions the choice is class 0 with source 0.
+/// The class of a choice at an instruction other than `wfq`, which is offered no head.
+pub const CLASS_NONE: u8 = 0;
+/// The class of responses.
+pub const CLASS_RESPONSE: u8 = 1;
+/// The class of messages of memory.
+pub const CLASS_MEMORY: u8 = 2;
+/// The class of requests.
+pub const CLASS_REQUEST: u8 = 3;
+
+/// A channel's head that `wfq` takes: its class, one of `CLASS_RESPONSE`, `CLASS_MEMORY` and `CLASS_REQUEST`, and its source,
+/// a cache or, of memory, 0. At other instructions the choice is `CLASS_NONE` with source 0.
 #[derive(Clone, Copy, Debug, PartialEq, Eq)]
 pub struct Choice {
     pub class: u8,
@@ -45,10 +50,17 @@ pub struct Held {
 
 /// A dirty block on its way to memory. Its address is that of its first word.
 #[derive(Clone, Copy, Debug, PartialEq, Eq)]
-pub struct Kept {
+pub struct DirtyBlock {
     pub addr: Addr,
     pub words: [u64; 8],
 }
+
+/// The directory wasn't read for the request.
+pub const NOT_READ: u8 = 0;
+/// The request's row of the directory was read.
+pub const ROW_READ: u8 = 1;
+/// The row was summed up: own, owner, others and victim are known.
+pub const SUMMED_UP: u8 = 2;
 
 /// The engine's parts but its directory and the pending bits.
 #[derive(Clone, Copy, Debug, PartialEq, Eq)]
@@ -57,11 +69,11 @@ pub struct Core {
     pub place: u32,
     pub head: Option<Head>,
     pub held: Option<Held>,
-    /// How far the directory was read for the request: 0 not at all, 1 the row, 2 the summary.
+    /// How far the directory was read for the request: `NOT_READ`, `ROW_READ` or `SUMMED_UP`.
     pub summ: u8,
     /// How many acknowledgements of invalidations are to come.
     pub acks: u64,
-    pub dirty: Option<Kept>,
+    pub dirty: Option<DirtyBlock>,
     /// The words of the block that memory has answered.
     pub got: Option<[u64; 8]>,
     pub registers: [u64; 8],
@@ -69,6 +81,9 @@ pub struct Core {
 }
 
 impl Core {
+    ghost use Rattle.std.specs.Prelude.{◌≡◌};
+    ghost use Rattle.bk_engine.specs.Engine.{new_core};
+
     /// The engine at its start.
     pub fn new() -> Core
         ensures { result ≡ new_core }
@@ -77,7 +92,7 @@ impl Core {
             place: 0,
             head: None,
             held: None,
-            summ: 0,
+            summ: NOT_READ,
             acks: 0,
             dirty: None,
             got: None,

@@ -2,23 +2,26 @@ ghost use Rattle.std.specs.Prelude.{◌≡◌, ◌<◌, ◌^◌, IfSome};
 ghost use Rattle.bk_isa.specs.Operands.{Operands};
 ghost use Rattle.bk_msg.specs.Within.{IsWay};
 ghost use Rattle.bk_dir.specs.Directories.{contents_of};
-ghost use Rattle.bk_engine.specs.EngineOf.{engine_of};
-ghost use Rattle.bk_engine.specs.Kept.{IsSound};
-ghost use Rattle.bk_engine.specs.Reads.{asked_of, summary_for, is_heavy, has_own, has_owner, has_victim, flag, number_of, gp_value, kind_value, own_number, owner_number, summary_value, held_value, field_value, goes, target};
+ghost use Rattle.bk_engine.specs.Engine.{engine_of};
+ghost use Rattle.bk_engine.specs.Heads.{IsSound};
+ghost use Rattle.bk_engine.specs.Reads.{query_of, summary_for, is_heavy, has_own, has_owner, has_victim, flag, number_of, gp_value, kind_value, own_number, owner_number, summary_value, held_value, field_value, is_branch_taken, target};
 
 use crate::heads::{has_value, head_value, is_placed, kind_number};
 use crate::parts::{Core, Head, Held};
 use bk_base::{Coh, Config, group_of, tag_at};
-use bk_dir::{Asked, Directory, Summary};
+use bk_dir::{Directory, Query, Summary};
 use bk_isa::Form;
+use bk_isa::operand::{
+    FIELD_ACKS, FIELD_F0, FIELD_GP, FIELD_HEAD, FIELD_KIND, FIELD_OTHERS, FIELD_OWN, FIELD_OWNER,
+};
 
-fn asked_of(config: Config, held: &Held) -> Asked
-    ensures value { result ≡ asked_of config held.now }
+fn query_of(config: Config, held: &Held) -> Query
+    ensures value { result ≡ query_of config held.now }
     ensures cache { result.cache ≡ held.now.source }
     ensures set { result.set < config.sets }
     ensures way { result.way ≡ held.now.way }
 {
-    Asked {
+    Query {
         cache: held.source,
         set: group_of(config, held.addr),
         tag: tag_at(config, held.addr),
@@ -36,7 +39,7 @@ pub(crate) fn summary_for(config: Config, directory: &Directory, held: &Held) ->
     ensures owner { IfSome result.owner (λ at. (at.0 < config.caches) × (at.1 < config.ways)) }
     ensures others { result.others < 2 ^ config.caches }
 {
-    directory.summary(asked_of(config, held))
+    directory.summary(query_of(config, held))
 }
 
 /// Whether a block in this state has to be flushed before it leaves.
@@ -98,7 +101,7 @@ fn number_of(b: bool) -> u8
     if b { 1 } else { 0 }
 }
 
-/// Field 3: whether the head's group is pending.
+/// Field `gp`: whether the head's group is pending.
 fn gp_value(config: Config, directory: &Directory, head: &Option<Head>) -> u8
     requires { directory.now.config ≡ config }
     ensures value { result ≡ gp_value config (contents_of directory.now) head.now }
@@ -113,7 +116,7 @@ fn gp_value(config: Config, directory: &Directory, head: &Option<Head>) -> u8
     }
 }
 
-/// Field 4: the request's kind.
+/// Field `kind`: the request's kind.
 fn kind_value(held: &Option<Held>) -> u8
     ensures value { result ≡ kind_value held.now }
     ensures small { result < 8 }
@@ -152,15 +155,15 @@ fn owner_number(state: Coh) -> u8
     }
 }
 
-/// Fields 6 to 9: own, owner, others and victim.
+/// Fields `own`, `owner`, `others` and `victim`.
 fn summary_value(summary: &Summary, field: u8) -> u8
     ensures value { result ≡ summary_value summary.now field }
     ensures small { result < 8 }
 {
     match field {
-        6 => own_number(summary.own),
-        7 => owner_number(summary.owner_state),
-        8 => number_of(0 < summary.others),
+        FIELD_OWN => own_number(summary.own),
+        FIELD_OWNER => owner_number(summary.owner_state),
+        FIELD_OTHERS => number_of(0 < summary.others),
         _ => number_of(is_heavy(summary.victim)),
     }
 }
@@ -185,21 +188,26 @@ fn field_value(config: Config, core: &Core, directory: &Directory, field: u8) ->
     ensures small { result < 8 }
 {
     match field {
-        2 => head_value(&core.head),
-        3 => gp_value(config, directory, &core.head),
-        4 => kind_value(&core.held),
-        10 => number_of(0 < core.acks),
-        15.. => number_of(flag(core, field - 15)),
+        FIELD_HEAD => head_value(&core.head),
+        FIELD_GP => gp_value(config, directory, &core.head),
+        FIELD_KIND => kind_value(&core.held),
+        FIELD_ACKS => number_of(0 < core.acks),
+        FIELD_F0.. => number_of(flag(core, field - FIELD_F0)),
         _ => held_value(config, core, directory, field),
     }
 }
 
 /// Whether a branch is taken.
-pub(crate) fn goes(config: Config, core: &Core, directory: &Directory, form: Form) -> bool
+pub(crate) fn is_branch_taken(
+    config: Config,
+    core: &Core,
+    directory: &Directory,
+    form: Form,
+) -> bool
     requires config { directory.now.config ≡ config }
     requires sound { IsSound config core.now }
     requires form { Operands form }
-    ensures { result ≡ goes config (engine_of core.now directory.now) form }
+    ensures { result ≡ is_branch_taken config (engine_of core.now directory.now) form }
 {
     let registers = &core.registers;
     match form {

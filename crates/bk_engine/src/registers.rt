@@ -1,6 +1,6 @@
 ghost use Rattle.std.specs.Prelude.{◌≡◌, ◌<◌};
 ghost use Rattle.bk_isa.specs.Operands.{Operands};
-ghost use Rattle.bk_engine.specs.Changes.{arithmetic, moves, reads_held, reads_request, flags_set};
+ghost use Rattle.bk_engine.specs.Changes.{after_arithmetic, after_move, after_held_read, after_request_read, after_flag};
 
 use crate::parts::{Core, Held};
 use bk_isa::Form;
@@ -9,7 +9,7 @@ use bk_isa::Form;
 
 fn arithmetic(core: &mut Core, form: Form)
     requires { Operands form }
-    ensures { core.new ≡ arithmetic core.old form }
+    ensures { core.new ≡ after_arithmetic core.old form }
 {
     let registers = &mut core.registers;
     match form {
@@ -40,7 +40,7 @@ fn arithmetic(core: &mut Core, form: Form)
 /// What moves numbers into a register, and what reckons with registers.
 fn moves(core: &mut Core, form: Form)
     requires { Operands form }
-    ensures { core.new ≡ moves core.old form }
+    ensures { core.new ≡ after_move core.old form }
 {
     match form {
         Form::Not { a, b } => core.registers[a as usize] = !core.registers[b as usize],
@@ -56,7 +56,7 @@ fn moves(core: &mut Core, form: Form)
 
 fn reads_held(core: &mut Core, held: Held, form: Form)
     requires { Operands form }
-    ensures { core.new ≡ reads_held core.old held form }
+    ensures { core.new ≡ after_held_read core.old held form }
 {
     match form {
         Form::Mova { a } => core.registers[a as usize] = held.addr.value(),
@@ -69,7 +69,7 @@ fn reads_held(core: &mut Core, held: Held, form: Form)
 /// What reads the request's parts into a register.
 pub(crate) fn reads_request(core: &mut Core, form: Form)
     requires { Operands form }
-    ensures { core.new ≡ reads_request core.old core.old.held form }
+    ensures { core.new ≡ after_request_read core.old core.old.held form }
 {
     match core.held {
         None => (),
@@ -80,7 +80,7 @@ pub(crate) fn reads_request(core: &mut Core, form: Form)
 /// The instructions on flags and registers. Any other changes nothing.
 pub(crate) fn flags_set(core: &mut Core, form: Form)
     requires { Operands form }
-    ensures { core.new ≡ flags_set core.old form }
+    ensures { core.new ≡ after_flag core.old form }
 {
     match form {
         Form::Sf { a } => core.flags[a as usize] = true,

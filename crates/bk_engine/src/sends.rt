@@ -1,22 +1,23 @@
 ghost use Rattle.std.specs.Prelude.{◌≡◌, ◌<◌, ◌≤◌, [], true, IfSome};
 ghost use Rattle.bk_msg.specs.Within.{IsWay};
 ghost use Rattle.bk_dir.specs.Directories.{contents_of};
-ghost use Rattle.bk_engine.specs.EngineOf.{engine_of};
-ghost use Rattle.bk_engine.specs.Kept.{IsSound};
-ghost use Rattle.bk_engine.specs.Ranges.{HasStates};
-ghost use Rattle.bk_engine.specs.Sends.{is_owner, is_invalidated, invs, flush_to, victim_address, flushes, transfer_to, grants, answers_word, writes_back, sends_for, sends_held, sends};
+ghost use Rattle.bk_engine.specs.Engine.{engine_of};
+ghost use Rattle.bk_engine.specs.Heads.{IsSound};
+ghost use Rattle.bk_engine.specs.Sends.{HasStates, is_owner, is_invalidated, invs, flush_to, victim_address, flushes, transfer_to, grants, answers_word, writes_back, sends_for, sends_held, sends};
 ghost use Rattle.bk_msg.specs.Table.{holds};
 ghost use Rattle.bk_msg.specs.declared.table.States.TheVariants.{Lowered, Left, Received, Granted};
 
-use crate::parts::{Core, Held, Kept};
+use crate::parts::{Core, DirtyBlock, Held};
 use crate::reads::summary_for;
 use arrayvec::ArrayVec;
 use bk_base::{Addr, Coh, Config, group_of, word_of};
 use bk_dir::{Directory, Summary};
 use bk_isa::Form;
+use bk_isa::operand::{WHOSE_OWN, WHOSE_OWNER, WITH_OWNER};
 use bk_msg::Message;
 
-/// The messages of an instruction: `inv` alone may send more than one, one for each cache at most.
+/// The messages of an instruction: `inv` alone may send more than one, one for each cache at most. So eight would do; the list
+/// of a caller has room for sixteen.
 pub(crate) type Sent = ArrayVec<Message, 16>;
 
 fn is_owner(at: Option<(u8, u8)>, cache: u8) -> bool
@@ -73,7 +74,7 @@ fn victim_address(config: Config, directory: &Directory, held: &Held) -> Addr
     Addr::of_block(config, group, tag)
 }
 
-/// A flush of an entry: the requester's own (0), the owner's (1), the victim (2).
+/// A flush of an entry: the requester's own, the owner's, or the victim.
 fn flushes(config: Config, directory: &Directory, held: &Held, who: u8, state: Coh, sent: &mut Sent)
     requires config { directory.now.config ≡ config }
     requires few { config.caches ≤ 8 }
@@ -83,8 +84,8 @@ fn flushes(config: Config, directory: &Directory, held: &Held, who: u8, state: C
     ensures { sent.new.items ≡ flushes config (contents_of directory.now) held.now who state }
 {
     match who {
-        0 => sent.push(Message::st_wb(held.source, state, held.addr)),
-        1 => {
+        WHOSE_OWN => sent.push(Message::st_wb(held.source, state, held.addr)),
+        WHOSE_OWNER => {
             let owner = summary_for(config, directory, held).owner;
             flush_to(owner, state, held.addr, sent)
         }
@@ -144,7 +145,7 @@ fn answers_word(held: &Held, got: &Option<[u64; 8]>, sent: &mut Sent)
     }
 }
 
-fn writes_back(dirty: &Option<Kept>, sent: &mut Sent)
+fn writes_back(dirty: &Option<DirtyBlock>, sent: &mut Sent)
     requires empty { sent.old.items ≡ [] }
     ensures { sent.new.items ≡ writes_back dirty.now }
 {
@@ -175,7 +176,7 @@ fn sends_for(
         Form::Inv { a } => invs(
             config,
             held,
-            a == 1,
+            a == WITH_OWNER,
             &summary_for(config, directory, held),
             sent,
         ),

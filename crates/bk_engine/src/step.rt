@@ -6,17 +6,16 @@ ghost use Rattle.bk_msg.specs.Within.{IsWithin};
 ghost use Rattle.bk_dir.specs.Contents.{Contents};
 ghost use Rattle.bk_dir.specs.Directories.{contents_of};
 ghost use Rattle.bk_engine.specs.Changes.{next_place};
-ghost use Rattle.bk_engine.specs.EngineOf.{engine_of};
-ghost use Rattle.bk_engine.specs.Kept.{IsSound};
-ghost use Rattle.bk_engine.specs.Ranges.{HasStates};
-ghost use Rattle.bk_engine.specs.Outward.{IsOutward};
+ghost use Rattle.bk_engine.specs.Engine.{engine_of};
+ghost use Rattle.bk_engine.specs.Heads.{IsSound};
+ghost use Rattle.bk_engine.specs.Sends.{HasStates};
+ghost use Rattle.bk_engine.specs.Step.{IsOutward, choice_of, pops, ran, runs_to};
 ghost use Rattle.bk_engine.specs.Stops.{stop_of};
-ghost use Rattle.bk_engine.specs.Step.{choice_of, pops, ran, runs_to};
 
 use crate::changes::change_core;
 use crate::directory::change_directory;
 use crate::parts::{Choice, Core, Head};
-use crate::reads::{goes, target};
+use crate::reads::{is_branch_taken, target};
 use crate::sends::{Sent, sends};
 use bk_base::Config;
 use bk_dir::Directory;
@@ -31,7 +30,7 @@ fn next_place(config: Config, core: &Core, directory: &Directory, form: Form) ->
     requires place { core.now.place < 256 }
     ensures { result ≡ next_place config (engine_of core.now directory.now) form }
 {
-    if goes(config, core, directory, form) {
+    if is_branch_taken(config, core, directory, form) {
         target(form)
     } else {
         core.place + 1

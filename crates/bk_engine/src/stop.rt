@@ -2,15 +2,22 @@ ghost use Rattle.std.specs.Prelude.{◌≡◌, ◌<◌, length};
 ghost use Rattle.std.specs.Option.{option_copied};
 ghost use Rattle.bk_isa.specs.Operands.{Operands};
 ghost use Rattle.bk_dir.specs.Directories.{contents_of};
-ghost use Rattle.bk_engine.specs.EngineOf.{engine_of};
-ghost use Rattle.bk_engine.specs.Kept.{IsSound};
+ghost use Rattle.bk_engine.specs.Engine.{engine_of};
+ghost use Rattle.bk_engine.specs.Heads.{IsSound};
 ghost use Rattle.bk_engine.specs.Stops.{halts_unless, wait_stop, pop_stop, branch_stop, entry_stop, named_entry, block_stop, request_stop, push_stop, directory_stop, form_stop, stop_of};
 
-use crate::heads::{BLOCK, INV_ACK, NO_HEAD, REQUEST, WB, head_number, head_value, names_class};
-use crate::parts::{Choice, Core, Head};
+use crate::heads::{
+    HEAD_BLOCK, HEAD_INV_ACK, HEAD_OTHER, HEAD_REQUEST, HEAD_WB, head_number, head_value,
+    names_class,
+};
+use crate::parts::{Choice, Core, Head, NOT_READ, ROW_READ};
 use crate::reads::{has_own, has_owner, has_victim};
 use bk_base::Config;
 use bk_dir::Directory;
+use bk_isa::operand::{
+    FIELD_GP, FIELD_KIND, FIELD_OTHERS, FIELD_OWN, FIELD_OWNER, FIELD_VICTIM, WHOSE_OWN,
+    WHOSE_OWNER,
+};
 use bk_isa::{Form, Instr};
 use bk_msg::Message;
 
@@ -81,10 +88,10 @@ fn pop_stop(core: &Core) -> Option<Stop>
         return Some(Stop::Halts(Halt::Head));
     };
     match head_number(&head.message.row()) {
-        REQUEST => halts_unless(core.held.is_none(), Halt::Request, None),
-        INV_ACK => halts_unless(0 < core.acks, Halt::Acks, None),
-        WB => halts_unless(core.dirty.is_none(), Halt::Block, None),
-        NO_HEAD => Some(Stop::Halts(Halt::Head)),
+        HEAD_REQUEST => halts_unless(core.held.is_none(), Halt::Request, None),
+        HEAD_INV_ACK => halts_unless(0 < core.acks, Halt::Acks, None),
+        HEAD_WB => halts_unless(core.dirty.is_none(), Halt::Block, None),
+        HEAD_OTHER => Some(Stop::Halts(Halt::Head)),
         _ => None,
     }
 }
@@ -93,9 +100,13 @@ fn branch_stop(core: &Core, field: u8) -> Option<Stop>
     ensures { result ≡ branch_stop core.now field }
 {
     match field {
-        3 => halts_unless(head_value(&core.head) == REQUEST, Halt::Head, None),
-        4 => halts_unless(core.held.is_some(), Halt::Request, None),
-        6..=9 => halts_unless(1 < core.summ, Halt::Summary, None),
+        FIELD_GP => halts_unless(head_value(&core.head) == HEAD_REQUEST, Halt::Head, None),
+        FIELD_KIND => halts_unless(core.held.is_some(), Halt::Request, None),
+        FIELD_OWN | FIELD_OWNER | FIELD_OTHERS | FIELD_VICTIM => halts_unless(
+            ROW_READ < core.summ,
+            Halt::Summary,
+            None,
+        ),
         _ => None,
     }
 }
@@ -104,18 +115,18 @@ fn entry_stop(core: &Core, is_there: bool) -> Option<Stop>
     ensures { result ≡ entry_stop core.now is_there }
 {
     let target = halts_unless(is_there, Halt::Target, None);
-    halts_unless(1 < core.summ, Halt::Summary, target)
+    halts_unless(ROW_READ < core.summ, Halt::Summary, target)
 }
 
-/// Whether there is such an entry: the requester's own (0), the owner's (1), the victim (2).
+/// Whether there is such an entry: the requester's own, the owner's, or the victim.
 fn named_entry(config: Config, core: &Core, directory: &Directory, who: u8) -> bool
     requires config { directory.now.config ≡ config }
     requires sound { IsSound config core.now }
     ensures { result ≡ named_entry config (contents_of directory.now) core.now.held who }
 {
     match who {
-        0 => has_own(config, core, directory),
-        1 => has_owner(config, core, directory),
+        WHOSE_OWN => has_own(config, core, directory),
+        WHOSE_OWNER => has_owner(config, core, directory),
         _ => has_victim(config, core, directory),
     }
 }
@@ -156,11 +167,11 @@ fn directory_stop(config: Config, core: &Core, directory: &Directory, form: Form
 {
     match form {
         Form::Rdw => request_stop(core),
-        Form::Gad => halts_unless(0 < core.summ, Halt::Summary, None),
+        Form::Gad => halts_unless(NOT_READ < core.summ, Halt::Summary, None),
         Form::Wde { .. } => request_stop(core),
         Form::Wds { a, .. } => entry_stop(core, named_entry(config, core, directory, a)),
         Form::Fin => request_stop(core),
-        Form::Inv { .. } => halts_unless(1 < core.summ, Halt::Summary, None),
+        Form::Inv { .. } => halts_unless(ROW_READ < core.summ, Halt::Summary, None),
         Form::Stwb { a, .. } => entry_stop(core, named_entry(config, core, directory, a)),
         Form::Tr { .. } => entry_stop(core, has_owner(config, core, directory)),
         _ => push_stop(core, form),
@@ -186,7 +197,7 @@ fn form_stop(
         Form::Bk { a, .. } => branch_stop(core, a),
         Form::Wfq { a } => wait_stop(&core.head, a, choice, message),
         Form::Popq { .. } => pop_stop(core),
-        Form::Defer => halts_unless(head_value(&core.head) == REQUEST, Halt::Head, None),
+        Form::Defer => halts_unless(head_value(&core.head) == HEAD_REQUEST, Halt::Head, None),
         _ => directory_stop(config, core, directory, form),
     }
 }

@@ -22,11 +22,12 @@ total-none zero = refl
 total-none (suc n) = let e = total-none n in omega (arith, e)
 
 -- one more number counts where it is below n
-total-cons : (n x : ℕ) (xs : List ℕ) → total n (x ∷ xs) ≡ cond (ltb x n) 1 0 + total n xs
-total-cons zero x xs = grind (arith, nat_tests)
-total-cons (suc n) x xs = lem (total n (x ∷ xs)) (total n xs) (times n xs) (total-cons n x xs)
+total-cons : (n number : ℕ) (xs : List ℕ) → total n (number ∷ xs) ≡ cond (ltb number n) 1 0 + total n xs
+total-cons zero number xs = grind (arith, nat_tests)
+total-cons (suc n) number xs = lem (total n (number ∷ xs)) (total n xs) (times n xs) (total-cons n number xs)
   where
-    lem : (a b c : ℕ) → a ≡ cond (ltb x n) 1 0 + b → a + (cond (eqb n x) 1 0 + c) ≡ cond (ltb x (suc n)) 1 0 + (b + c)
+    lem : (a b c : ℕ) → a ≡ cond (ltb number n) 1 0 + b → a + (cond (eqb n number) 1 0 + c)
+        ≡ cond (ltb number (suc n)) 1 0 + (b + c)
     lem a b c e = grind (arith, nat_tests)
 
 -- a list of numbers below n
@@ -34,7 +35,8 @@ pub total-length : (n : ℕ) (xs : List ℕ) → ((c : ℕ) → times c xs ≢ 0
 total-length n [] h = total-none n
 total-length n (x ∷ xs) h =
     total-cons n x xs
-    ∙ lem (total n xs) (length xs) (total-length n xs (λ c q. h c (λ z. q (more (cond (eqb c x) 1 0) (times c xs) z)))) (h x (first (times x xs)))
+    ∙ lem (total n xs) (length xs) (total-length n xs (λ c q. h c (λ z. q (more (cond (eqb c x) 1 0) (times c xs) z))))
+    (h x (first (times x xs)))
   where
     more : (a b : ℕ) → a + b ≡ 0 → b ≡ 0
     more a b z = omega (arith, z)
@@ -46,13 +48,14 @@ total-length n (x ∷ xs) h =
     lem a b e l = grind (arith, nat_tests)
 
 -- of each number, which stands in the list once at most, as many messages are sent
-pub invs-length : (n : ℕ) (h : Held) (f : Bool) (s : Summary) (to : List ℕ) → ((c : ℕ) → c < n → is_invalidated f s c ≡ eqb (times c to) 1)
+pub invs-length : (n : ℕ) (h : Held) (f : Bool) (summary : Summary) (to : List ℕ)
+    → ((c : ℕ) → c < n → is_invalidated f summary c ≡ eqb (times c to) 1)
     → ((c : ℕ) → times c to ≤ 1)
-    → length (join_below n (inv_to h f s)) ≡ total n to
-invs-length zero h f s to i o = refl
-invs-length (suc n) h f s to i o =
-    length-append (join_below n (inv_to h f s)) (inv_to h f s n)
-    ∙ both _ _ _ _ (invs-length n h f s to (λ c l. i c (up c l)) o) (sent (is_invalidated f s n) (i n (last n)) (o n))
+    → length (join_below n (inv_to h f summary)) ≡ total n to
+invs-length zero h f summary to i o = refl
+invs-length (suc n) h f summary to i o =
+    length-append (join_below n (inv_to h f summary)) (inv_to h f summary n)
+    ∙ both _ _ _ _ (invs-length n h f summary to (λ c l. i c (up c l)) o) (sent (is_invalidated f summary n) (i n (last n)) (o n))
   where
     up : (c : ℕ) → c < n → c < suc n
     up c l = omega (arith, l)
@@ -63,7 +66,8 @@ invs-length (suc n) h f s to i o =
     both : (a b c d : ℕ) → a ≡ c → b ≡ d → a + b ≡ c + d
     both a b c d p q = omega (arith, p, q)
 
-    sent : (b : Bool) → b ≡ eqb (times n to) 1 → times n to ≤ 1 → length (if b then rows.Inv ENGINE n (block_start h.addr) ∷ [] else []) ≡ times n to
+    sent : (b : Bool) → b ≡ eqb (times n to) 1 → times n to ≤ 1
+        → length (if b then rows.Inv ENGINE n (block_start h.addr) ∷ [] else []) ≡ times n to
     sent true j l = lem (times n to) j
       where
         lem : (t : ℕ) → true ≡ eqb t 1 → 1 ≡ t

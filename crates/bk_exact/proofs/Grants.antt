@@ -10,7 +10,7 @@ use Rattle.bk_isa.specs.declared.form.Form.TheVariants as forms
 use Rattle.bk_know.specs.declared.sets.Sets.{Sets}
 use Rattle.bk_know.specs.Sets.{only, subset}
 use Rattle.bk_flow.specs.Flow.{may}
-use Rattle.bk_flow.specs.Values.{KIND_RD, KIND_WR, KIND_RD_WR, OWNER_NONE, OWNER_F, OWNER_NONE_F, OTHERS_NO}
+use Rattle.bk_know.specs.declared.values.TheConstants.{KIND_RD, KIND_WR, KIND_RD_WR, OWNER_NONE, OWNER_F, OWNER_NONE_F, OTHERS_NO}
 use Rattle.bk_check.specs.Obligations.{implies, bears, is_handover}
 use Rattle.bk_check.specs.Obligations as obligations
 use Rattle.bk_order.proofs.Meets.{Met}
@@ -19,9 +19,9 @@ use Rattle.bk_engine.specs.declared.parts.Held.{Held}
 use Rattle.bk_engine.specs.declared.parts.RequestKind.{RequestKind}
 use Rattle.bk_engine.specs.declared.parts.RequestKind.TheVariants as kinds
 use Rattle.bk_engine.specs.Heads.{kind_number}
-use Rattle.bk_engine.specs.Ranges.{HasStates}
+use Rattle.bk_engine.specs.Sends.{HasStates}
 use Rattle.bk_system.specs.State.{State}
-use Rattle.bk_machine.specs.Actions.{requester_owes, owner_owes, BlockSuits, NoneOrForward, GrantsByBlock, GrantsByWake, GrantsByTransfer, AnswersWord, AnswersStore, AnswersEvict, may_pair}
+use Rattle.bk_machine.specs.Actions.{debt_of_requester, debt_of_owner, BlockSuits, NoneOrForward, GrantsByBlock, GrantsByWake, GrantsByTransfer, AnswersWord, AnswersStore, AnswersEvict, may_pair}
 use Rattle.bk_machine.specs.Messages.{request_suits}
 use Rattle.bk_machine.specs.Products.{words_of}
 use Rattle.bk_bridge.specs.Acting.{request_by}
@@ -42,7 +42,8 @@ block-readable : (y : Coh) → HasStates (forms.Blk y) → is_readable y ≡ tru
 block-readable y e = grind arith
 
 -- a Rd may be granted each state that can be read, a Wr one that can be written
-block-suits : (k : Shape) (h : Held) (q : RequestKind) (y : Coh) → HasStates (forms.Blk y) → subset (only (kind_number q)) KIND_RD_WR ≡ true
+block-suits : (k : Shape) (h : Held) (q : RequestKind) (y : Coh) → HasStates (forms.Blk y)
+    → subset (only (kind_number q)) KIND_RD_WR ≡ true
     → implies (may (only (kind_number q)) KIND_WR) (is_writable y) ≡ true → request_suits (request_by k q h) y ≡ true
 block-suits k h kinds.Rd y g e f = block-readable y g
 block-suits k h kinds.Wr y g e f = f
@@ -51,15 +52,16 @@ block-suits k h kinds.UcWr y g e f = absurd (cc)
 block-suits k h kinds.Evict y g e f = absurd (cc)
 
 -- the copies of others bear with the state, in the verifier's word and in the machine's
-block-bears : (y z : Coh) (os : List ℕ) (s : Sets) → HasStates (forms.Blk y)
-    → (subset s.owner OWNER_NONE_F ≡ true → NoneOrForward z) → ((s.owner == OWNER_NONE) ≡ true → z ≡ states.I) → ((s.others == OTHERS_NO) ≡ true → os ≡ [])
-    → bears y s ≡ true → BlockSuits y z os
-block-bears states.I z os s g a b c e = absurd (cc)
-block-bears states.S z os s g a b c e = a e
-block-bears states.E z os s g a b c e = let q = and_parts _ _ e in (b q.0, c q.1)
-block-bears states.F z os s g a b c e = b e
-block-bears states.M z os s g a b c e = let q = and_parts _ _ e in (b q.0, c q.1)
-block-bears states.O z os s g a b c e = absurd (cc)
+block-bears : (y z : Coh) (os : List ℕ) (sets : Sets) → HasStates (forms.Blk y)
+    → (subset sets.owner OWNER_NONE_F ≡ true → NoneOrForward z) → ((sets.owner == OWNER_NONE) ≡ true → z ≡ states.I)
+    → ((sets.others == OTHERS_NO) ≡ true → os ≡ [])
+    → bears y sets ≡ true → BlockSuits y z os
+block-bears states.I z os sets g a b c e = absurd (cc)
+block-bears states.S z os sets g a b c e = a e
+block-bears states.E z os sets g a b c e = let q = and_parts _ _ e in (b q.0, c q.1)
+block-bears states.F z os sets g a b c e = b e
+block-bears states.M z os sets g a b c e = let q = and_parts _ _ e in (b q.0, c q.1)
+block-bears states.O z os sets g a b c e = absurd (cc)
 
 -- THE PAIRS OF A TRANSFER: the owner's new state and the requester's
 
@@ -67,35 +69,40 @@ no-pair : (a b : Bool) → (if a then b && false else false) ≡ true → ⊥
 no-pair a b e = grind arith
 
 -- a pair that the verifier allows is one that the machine's table allows; F goes with an owner in F alone
-pair-same : (y x z : Coh) (s : Sets) → ((s.owner == OWNER_F) ≡ true → z ≡ states.F) → obligations.may_pair y x s ≡ true → may_pair z y x ≡ true
-pair-same y x z s f e = grind arith
+pair-same : (y state z : Coh) (sets : Sets) → ((sets.owner == OWNER_F) ≡ true → z ≡ states.F)
+    → obligations.may_pair y state sets ≡ true
+    → may_pair z y state ≡ true
+pair-same y state z sets f e = grind arith
 
-pair-readable : (y x : Coh) (s : Sets) → obligations.may_pair y x s ≡ true → is_readable x ≡ true
-pair-readable y x s e = grind arith
+pair-readable : (y state : Coh) (sets : Sets) → obligations.may_pair y state sets ≡ true → is_readable state ≡ true
+pair-readable y state sets e = grind arith
 
 -- a Wr goes with a handover, and of the other kinds only Rd with any pair
-pair-kind : (k : Shape) (h : Held) (q : RequestKind) (y x : Coh) (s : Sets) → obligations.may_pair y x s ≡ true
-    → (if is_handover y x then (s.others == OTHERS_NO) && subset (only (kind_number q)) KIND_RD_WR else only (kind_number q) == KIND_RD) ≡ true
-    → request_suits (request_by k q h) x ≡ true
-pair-kind k h kinds.Rd y x s p e = pair-readable y x s p
-pair-kind k h kinds.Wr y x s p e = grind arith
-pair-kind k h kinds.UcRd y x s p e = absurd (no-pair (is_handover y x) (s.others == OTHERS_NO) e)
-pair-kind k h kinds.UcWr y x s p e = absurd (no-pair (is_handover y x) (s.others == OTHERS_NO) e)
-pair-kind k h kinds.Evict y x s p e = absurd (no-pair (is_handover y x) (s.others == OTHERS_NO) e)
+pair-kind : (k : Shape) (h : Held) (q : RequestKind) (y state : Coh) (sets : Sets) → obligations.may_pair y state sets ≡ true
+    → (if is_handover y state then (sets.others == OTHERS_NO) && subset (only (kind_number q)) KIND_RD_WR
+    else only (kind_number q) == KIND_RD) ≡ true
+    → request_suits (request_by k q h) state ≡ true
+pair-kind k h kinds.Rd y state sets p e = pair-readable y state sets p
+pair-kind k h kinds.Wr y state sets p e = grind arith
+pair-kind k h kinds.UcRd y state sets p e = absurd (no-pair (is_handover y state) (sets.others == OTHERS_NO) e)
+pair-kind k h kinds.UcWr y state sets p e = absurd (no-pair (is_handover y state) (sets.others == OTHERS_NO) e)
+pair-kind k h kinds.Evict y state sets p e = absurd (no-pair (is_handover y state) (sets.others == OTHERS_NO) e)
 
 -- where the requester is to write, no other cache has a copy in S
-pair-alone : (y : Coh) (s : Sets) (os : List ℕ) → ((s.others == OTHERS_NO) ≡ true → os ≡ []) → obligations.may_pair y states.M s ≡ true
-    → (if is_handover y states.M then (s.others == OTHERS_NO) && subset s.kind KIND_RD_WR else s.kind == KIND_RD) ≡ true → os ≡ []
-pair-alone states.I s os f p e = f (and_parts _ _ e).0
-pair-alone states.S s os f p e = absurd (cc)
-pair-alone states.E s os f p e = absurd (cc)
-pair-alone states.F s os f p e = absurd (cc)
-pair-alone states.M s os f p e = absurd (cc)
-pair-alone states.O s os f p e = absurd (cc)
+pair-alone : (y : Coh) (sets : Sets) (os : List ℕ) → ((sets.others == OTHERS_NO) ≡ true → os ≡ [])
+    → obligations.may_pair y states.M sets ≡ true
+    → (if is_handover y states.M then (sets.others == OTHERS_NO) && subset sets.kind KIND_RD_WR else sets.kind == KIND_RD)
+    ≡ true → os ≡ []
+pair-alone states.I sets os f p e = f (and_parts _ _ e).0
+pair-alone states.S sets os f p e = absurd (cc)
+pair-alone states.E sets os f p e = absurd (cc)
+pair-alone states.F sets os f p e = absurd (cc)
+pair-alone states.M sets os f p e = absurd (cc)
+pair-alone states.O sets os f p e = absurd (cc)
 
-module _ (k : Shape) (n : State) (told : Told) (tied : Tied k n told) (v : Staged k n told false) where
+module _ (k : Shape) (s : State) (told : Told) (tied : Tied k s told) (v : Staged k s told false) where
   abbrev e : Core
-  e = n.engine.core
+  e = s.engine.core
 
   open v use {serving as served, serving.{held as h, transaction as x, serves as sv}}
 
@@ -103,89 +110,104 @@ module _ (k : Shape) (n : State) (told : Told) (tied : Tied k n told) (v : Stage
   t = tag_at k h.addr
 
   abbrev m : Sets
-  m = mask k n told served
+  m = mask k s told served
 
   -- GRANTS
 
-  pub permits-blk : (y : Coh) → HasStates (forms.Blk y) → Met (forms.Blk y) m → Moves k n told (forms.Blk y)
+  pub permits-blk : (y : Coh) → HasStates (forms.Blk y) → Met (forms.Blk y) m → Moves k s told (forms.Blk y)
   permits-blk y g o =
       let c = and_parts _ _ o.o17 in
       let q = and4 _ _ _ _ o.o18 in
       let r = values.mem-got x.written x.reading q.1 in
       let f = got-found e.got x.reading r.0 sv.got r.1 in
-      acts-still k n told tied served (forms.Blk y) (GrantsByBlock (words_of f.words) y x)
-      (record x { granted = true; requester_debt = requester_owes x y }) refl
+      acts-still k s told tied served (forms.Blk y) (GrantsByBlock (words_of f.words) y x)
+      (record x { granted = true; requester_debt = debt_of_requester x y }) refl
       (ap (option_map (λ words. GrantsByBlock (words_of words) y x)) f.is) (
-        ready k n told v c.0,
+        ready k s told v c.0,
         f.same,
-        light-victim k n told served c.1,
+        light-victim k s told served c.1,
         ap (λ r. request_suits r y) sv.serves.request ∙ block-suits k h h.kind y g q.0 q.2,
-        block-bears y _ _ m g (λ i. subst NoneOrForward (sym (owner-read k n told served)) (forward k n told served i)) (no-owner_state k n told served)
-            (no-others k n told served) q.3,
-      ) refl (λ c r. refl) refl (serves-granted k n told tied served true (requester_owes x y) x.owner_debt (closes k n told v (and_parts _ _ o.o11).0))
+        block-bears y _ _ m g (λ i. subst NoneOrForward (sym (owner-read k s told served)) (forward k s told served i))
+            (no-owner_state k s told served)
+            (no-others k s told served) q.3,
+      ) refl (λ c r. refl) refl
+      (serves-granted k s told tied served true (debt_of_requester x y) x.owner_debt (closes k s told v (and_parts _ _ o.o11).0))
 
-  pub permits-wake : Met forms.Wake m → Moves k n told forms.Wake
+  pub permits-wake : Met forms.Wake m → Moves k s told forms.Wake
   permits-wake o =
       let q = and3 _ _ _ o.o18 in
       let a = and_parts _ _ q.2 in
-      acts-still k n told tied served forms.Wake (GrantsByWake t h.way x) _ refl refl (
-        ready k n told v o.o17,
-        of-kind k n told served kinds.Wr (values.kind-wr h.kind q.0),
-        not-asked k n told v o.o17,
-        subst (λ (y : Coh). (y ≡ states.S) ⊎ ((y ≡ states.F) ⊎ (y ≡ states.O))) (sym (own-read k n told served)) (values.own-shared _ q.1),
-        no-owner k n told served a.0,
-        no-others k n told served a.1,
+      acts-still k s told tied served forms.Wake (GrantsByWake t h.way x) _ refl refl (
+        ready k s told v o.o17,
+        of-kind k s told served kinds.Wr (values.kind-wr h.kind q.0),
+        not-asked k s told v o.o17,
+        subst (λ (y : Coh). (y ≡ states.S) ⊎ ((y ≡ states.F) ⊎ (y ≡ states.O))) (sym (own-read k s told served))
+            (values.own-shared _ q.1),
+        no-owner k s told served a.0,
+        no-others k s told served a.1,
       ) refl (λ c r. refl) refl
-      (serves-granted k n told tied served true (Some (record { cache = x.cache; way = h.way; held = record { tag = t; state = states.M } })) x.owner_debt
-      (closes k n told v (and_parts _ _ o.o11).0))
+      (serves-granted k s told tied served true
+      (Some (record { cache = x.cache; way = h.way; entry = record { tag = t; state = states.M } })) x.owner_debt
+      (closes k s told v (and_parts _ _ o.o11).0))
 
-  pub permits-tr : (y z : Coh) → Met (forms.Tr y z) m → Moves k n told (forms.Tr y z)
+  -- O17 and O19 give an owner that is there, a requester that may have the block, and a pair of states that fit; that is what the action
+  -- asks.
+  pub permits-tr : (y z : Coh) → Met (forms.Tr y z) m → Moves k s told (forms.Tr y z)
   permits-tr y z o =
       let c = and_parts _ _ o.o17 in
       let q = and3 _ _ _ o.o19 in
-      let f = owner-there k n told served q.0 in
-      acts-still k n told tied served (forms.Tr y z) (GrantsByTransfer f.cache f.way y z x)
-      (record x { granted = true; requester_debt = requester_owes x z; owner_debt = owner_owes f.cache f.way x y }) refl
-      (ap (option_map (λ (at : ℕ × ℕ). GrantsByTransfer at.0 at.1 y z x)) (owner-place k n told served f.cache f.way f.is_owner f.is_way)) (
-        ready k n told v c.0,
-        not-asked k n told v c.0,
-        light-victim k n told served c.1,
-        owner-at k n told served f,
-        pair-same y z _ m (λ i. owner-read k n told served ∙ values.owner-in_F _ i) q.1,
+      let f = owner-there k s told served q.0 in
+      acts-still k s told tied served (forms.Tr y z) (GrantsByTransfer f.cache f.way y z x)
+      (record x { granted = true; requester_debt = debt_of_requester x z; owner_debt = debt_of_owner f.cache f.way x y }) refl
+      (ap (option_map (λ (at : ℕ × ℕ). GrantsByTransfer at.0 at.1 y z x))
+      (owner-place k s told served f.cache f.way f.is_owner f.is_way)) (
+        ready k s told v c.0,
+        not-asked k s told v c.0,
+        light-victim k s told served c.1,
+        owner-at k s told served f,
+        pair-same y z _ m (λ i. owner-read k s told served ∙ values.owner-in_F _ i) q.1,
         ap (λ r. request_suits r z) sv.serves.request ∙ pair-kind k h h.kind y z m q.1 q.2,
         λ i.
-            pair-alone y m _ (no-others k n told served) (subst (λ (u : Coh). obligations.may_pair y u m ≡ true) i q.1)
-            (subst (λ (u : Coh). (if is_handover y u then (m.others == OTHERS_NO) && subset m.kind KIND_RD_WR else m.kind == KIND_RD) ≡ true) i q.2),
+            pair-alone y m _ (no-others k s told served) (subst (λ (u : Coh). obligations.may_pair y u m ≡ true) i q.1)
+            (subst (λ (u : Coh). (if is_handover y u then (m.others == OTHERS_NO) && subset m.kind KIND_RD_WR else m.kind == KIND_RD)
+            ≡ true) i q.2),
       ) refl (λ c r. refl) refl
-      (serves-granted k n told tied served true (requester_owes x z) (owner_owes f.cache f.way x y) (closes k n told v (and_parts _ _ o.o11).0))
+      (serves-granted k s told tied served true (debt_of_requester x z) (debt_of_owner f.cache f.way x y)
+      (closes k s told v (and_parts _ _ o.o11).0))
 
   -- ANSWERS
 
   answered : obligations.sends m ≡ true → ServesHeld k e h (group_of k h.addr) (record x { granted = true })
-  answered q = serves-granted k n told tied served true x.requester_debt x.owner_debt (closes k n told v q)
+  answered q = serves-granted k s told tied served true x.requester_debt x.owner_debt (closes k s told v q)
 
-  pub permits-ucblk : Met forms.Ucblk m → Moves k n told forms.Ucblk
+  pub permits-ucblk : Met forms.Ucblk m → Moves k s told forms.Ucblk
   permits-ucblk o =
       let q = and_parts _ _ o.o16 in
       let r = values.mem-got x.written x.reading q.1 in
       let f = got-found e.got x.reading r.0 sv.got r.1 in
-      acts-still k n told tied served forms.Ucblk (AnswersWord t (word_of h.addr) (words_of f.words) x) (record x { granted = true }) refl
+      acts-still k s told tied served forms.Ucblk (AnswersWord t (word_of h.addr) (words_of f.words) x) (record x { granted = true }) refl
       (ap (option_map (λ words. AnswersWord t (word_of h.addr) (words_of words) x)) f.is)
-      (ready k n told v o.o17, of-kind k n told served kinds.UcRd (values.kind-uc_rd h.kind q.0), f.same) refl (λ c r. refl) refl
+      (ready k s told v o.o17, of-kind k s told served kinds.UcRd (values.kind-uc_rd h.kind q.0), f.same) refl (λ c r. refl) refl
       (answered (and_parts _ _ o.o11).0)
 
-  pub permits-ucdone : Met forms.Ucdone m → Moves k n told forms.Ucdone
+  pub permits-ucdone : Met forms.Ucdone m → Moves k s told forms.Ucdone
   permits-ucdone o =
       let q = and_parts _ _ o.o16 in
-      acts-still k n told tied served forms.Ucdone (AnswersStore t (word_of h.addr) h.value x) (record x { granted = true }) refl refl
-      (ready k n told v o.o17, of-kind k n told served kinds.UcWr (values.kind-uc_wr h.kind q.0), values.mem-written x.written x.reading q.1) refl
+      acts-still k s told tied served forms.Ucdone (AnswersStore t (word_of h.addr) h.value x) (record x { granted = true }) refl refl (
+        ready k s told v o.o17,
+        of-kind k s told served kinds.UcWr (values.kind-uc_wr h.kind q.0),
+        values.mem-written x.written x.reading q.1,
+      ) refl
       (λ c r. refl) refl
       (answered (and_parts _ _ o.o11).0)
 
-  pub permits-done : Met forms.Done m → Moves k n told forms.Done
+  pub permits-done : Met forms.Done m → Moves k s told forms.Done
   permits-done o =
       let q = and_parts _ _ o.o16 in
-      acts-still k n told tied served forms.Done (AnswersEvict t h.way x) (record x { granted = true }) refl refl
-      (ready k n told v o.o17, of-kind k n told served kinds.Evict (values.kind-evict h.kind q.0), own-read k n told served ∙ values.own-none _ q.1) refl
+      acts-still k s told tied served forms.Done (AnswersEvict t h.way x) (record x { granted = true }) refl refl (
+        ready k s told v o.o17,
+        of-kind k s told served kinds.Evict (values.kind-evict h.kind q.0),
+        own-read k s told served ∙ values.own-none _ q.1,
+      ) refl
       (λ c r. refl)
       refl (answered (and_parts _ _ o.o11).0)

@@ -4,12 +4,12 @@ use Rattle.bk_base.specs.Places.{Shape, InProfile, group_of, tag_at}
 use Rattle.bk_isa.specs.declared.form.Form.TheVariants as forms
 use Rattle.bk_order.proofs.Meets.{Met}
 use Rattle.bk_order.proofs.Tests.{implied}
-use Rattle.bk_dir.proofs.Kept.{few_caches}
+use Rattle.bk_dir.proofs.Lists.{few_caches}
 use Rattle.bk_engine.specs.declared.parts.Core.{Core}
 use Rattle.bk_engine.specs.declared.parts.Held.{Held}
 use Rattle.bk_engine.specs.Sends.{sends, sends_held}
 use Rattle.bk_system.specs.State.{State}
-use Rattle.bk_machine.specs.Actions.{Permitted, Invalidates, NoneOrForward, action_after, sent_to}
+use Rattle.bk_machine.specs.Actions.{Permitted, Invalidates, NoneOrForward, action_after, invalidation_targets}
 use Rattle.bk_machine.specs.Directory as machine
 use Rattle.bk_machine.specs.Entries.{Entry, times}
 use Rattle.bk_machine.specs.Invariant.{Invariant}
@@ -28,10 +28,11 @@ use Rattle.bk_exact.proofs.Permits.{acts-to, ungranted}
 use Rattle.bk_exact.proofs.Readings.{sum, reads, owner-same, owner-read, others-same, forward}
 use Rattle.bk_exact.proofs.Serving.{Staged, mask}
 
-module _ (k : Shape) (n : State) (told : Told) (tied : Tied k n told) (v : Staged k n told false) (profile : InProfile k) (a : ℕ)
-    (o : Met (forms.Inv a) (mask k n told v.serving)) where
+module _ (k : Shape) (then_state : State) (told : Told) (tied : Tied k then_state told) (v : Staged k then_state told false)
+    (profile : InProfile k) (a : ℕ)
+    (o : Met (forms.Inv a) (mask k then_state told v.serving)) where
   abbrev e : Core
-  e = n.engine.core
+  e = then_state.engine.core
 
   open v use {serving as served, serving.{held as h, transaction as x, serves as sv}}
 
@@ -39,23 +40,24 @@ module _ (k : Shape) (n : State) (told : Told) (tied : Tied k n told) (v : Stage
   s = group_of k h.addr
 
   abbrev w : World
-  w = told_world k n told
+  w = told_world k then_state told
 
   abbrev d : ℕ → ℕ → Entry
   d = w.directory s
 
   -- whom it is sent to
   abbrev pub to : List ℕ
-  to = sent_to (a == 1) (machine.owner k.caches k.ways d h.source (tag_at k h.addr)) (machine.others k.caches k.ways d h.source (tag_at k h.addr))
+  to = invalidation_targets (a == 1) (machine.owner k.caches k.ways d h.source (tag_at k h.addr))
+      (machine.others k.caches k.ways d h.source (tag_at k h.addr))
 
   abbrev y : Transaction
   y = record x { waiting = x.waiting ++ to }
 
   permitted : Permitted k s (Invalidates (a == 1) to x) w
   permitted = (
-    ungranted k n told v,
-    sym (λ i. sent_to (a == 1) (owner-same k n told served i) (others-same k n told served i)),
-    λ i. subst NoneOrForward (sym (owner-read k n told served)) (forward k n told served (implied (a == 1) _ i o.o13)),
+    ungranted k then_state told v,
+    sym (λ i. invalidation_targets (a == 1) (owner-same k then_state told served i) (others-same k then_state told served i)),
+    λ i. subst NoneOrForward (sym (owner-read k then_state told served)) (forward k then_state told served (implied (a == 1) _ i o.o13)),
   )
 
   -- the machine after it has its invariant, which bounds the acks
@@ -73,26 +75,27 @@ module _ (k : Shape) (n : State) (told : Told) (tied : Tied k n told) (v : Stage
   from c i = (later.recorded).from c (lem (times c x.waiting) (times c to) (times-append c x.waiting to) i)
     where
       lem : (p q : ℕ) → times c (x.waiting ++ to) ≡ p + q → q ≢ 0 → times c (x.waiting ++ to) ≢ 0
-      lem p q i n z = n (omega (arith, i, z))
+      lem p q i then_state z = then_state (omega (arith, i, z))
 
   -- so as many messages are sent as the list is long
-  sent : length (sends k n.engine (forms.Inv a)) ≡ length to
+  sent : length (sends k then_state.engine (forms.Inv a)) ≡ length to
   sent =
-      ap (λ (q : Option Held). length (sends_held k n.engine q (forms.Inv a))) served.is_held
-      ∙ invs-length k.caches h (a == 1) (sum k n told served) to (λ c l. (reads k n told served).invalidated (a == 1) c l) once
+      ap (λ (q : Option Held). length (sends_held k then_state.engine q (forms.Inv a))) served.is_held
+      ∙ invs-length k.caches h (a == 1) (sum k then_state told served) to
+      (λ c l. (reads k then_state told served).invalidated (a == 1) c l) once
       ∙ total-length k.caches to from
 
   -- no count of acks comes near 2^64
-  pub counted : (e.acks + length (sends k n.engine (forms.Inv a))) % 2 ^ 64 ≡ length (x.waiting ++ to)
+  pub counted : (e.acks + length (sends k then_state.engine (forms.Inv a))) % 2 ^ 64 ≡ length (x.waiting ++ to)
   counted =
-      lem e.acks (length x.waiting) (length (sends k n.engine (forms.Inv a))) (length to) (length (x.waiting ++ to)) sv.acks sent
+      lem e.acks (length x.waiting) (length (sends k then_state.engine (forms.Inv a))) (length to) (length (x.waiting ++ to)) sv.acks sent
       (length-append x.waiting to) ((under_way k _ later).acks s y refl v.is_granted) (few_caches k profile)
     where
       lem : (p q r u v : ℕ) → p ≡ q → r ≡ u → v ≡ q + u → v < k.caches → k.caches ≤ 8 → (p + r) % 2 ^ 64 ≡ v
       lem p q r u v i j z l f = omega (arith, i, j, z, l, f)
 
-  pub permits-inv : Moves k n told (forms.Inv a)
+  pub permits-inv : Moves k then_state told (forms.Inv a)
   permits-inv =
-      acts-to k n told tied served (forms.Inv a) (Invalidates (a == 1) to x) y refl refl permitted refl (λ c r. refl) refl
+      acts-to k then_state told tied served (forms.Inv a) (Invalidates (a == 1) to x) y refl refl permitted refl (λ c r. refl) refl
       (λ c r.
       serves-as k e _ h s x y sv refl refl counted sv.kept sv.got sv.written (λ g. clash g v.is_granted))

@@ -21,19 +21,23 @@ use Rattle.bk_exact.specs.Ties.{told_world}
 
 -- An instruction that takes no head off is a permitted action; what it does to the machine is what the action does; and engine and
 -- deferred request agree with what is told after it.
-pub record Moves (k : Shape) (n : State) (told : Told) (f : Form) : Type 0 where
-  pub acts : Acts k n told f
-  pub alike : record (done_by k n.engine.core f (told_world k n told)) { transaction = (action_after acts.group acts.action (told_world k n told)).transaction }
-      ≡ action_after acts.group acts.action (told_world k n told)
+pub record Moves (k : Shape) (s : State) (told : Told) (f : Form) : Type 0 where
+  pub acts : Acts k s told f
+  pub alike : record (done_by k s.engine.core f (told_world k s told))
+      { transaction = (action_after acts.group acts.action (told_world k s told)).transaction }
+      ≡ action_after acts.group acts.action (told_world k s told)
   pub agrees : (choice : Choice) (message : Option Row)
-      → AgreesWith k (core_after k n.engine f choice message) (told_after k n.engine.core (told_world k n told) f told)
-  pub left : LeavesDeferred (action_after acts.group acts.action (told_world k n told)) (deferred_after k n.engine.core f told.deferred)
+      → AgreesWith k (core_after k s.engine f choice message) (told_after k s.engine.core (told_world k s told) f told)
+  pub left : LeavesDeferred (action_after acts.group acts.action (told_world k s told)) (deferred_after k s.engine.core f told.deferred)
 
 -- The same request is served by another core, and for another record of its transaction.
-pub serves-as : (k : Shape) (e c : Core) (h : Held) (s : ℕ) (x y : Transaction) → ServesHeld k e h s x → y.cache ≡ x.cache → y.request ≡ x.request
-    → c.acks ≡ length y.waiting → KeptAlike k s c.dirty y.write_back → GotAlike c.got y.reading → (y.written ≡ true → y.reading ≡ NotRead)
-    → (y.granted ≡ true → IsClosed c) → ServesHeld k c h s y
-serves-as k e c h s x y a i j acks kept got written closed = record {
+pub serves-as : (k : Shape) (core later_core : Core) (h : Held) (g : ℕ) (x other : Transaction) → ServesHeld k core h g x
+    → other.cache ≡ x.cache → other.request ≡ x.request
+    → later_core.acks ≡ length other.waiting → KeptAlike k g later_core.dirty other.write_back
+    → GotAlike later_core.got other.reading
+    → (other.written ≡ true → other.reading ≡ NotRead)
+    → (other.granted ≡ true → IsClosed later_core) → ServesHeld k later_core h g other
+serves-as k core later_core h g x other a i j acks kept got written closed = record {
   group = a.group;
   serves = record { cache = i ∙ a.serves.cache; request = j ∙ a.serves.request; way = ap request_way j ∙ a.serves.way };
   acks = acks;
@@ -44,14 +48,17 @@ serves-as k e c h s x y a i j acks kept got written closed = record {
 }
 
 -- what agrees is carried along equal requests and equal transactions
-pub told-serves : (k : Shape) (e : Core) (o p : Option Held) (x y : Option (ℕ × Transaction)) → o ≡ p → x ≡ y → ServesTold k e p y → ServesTold k e o x
-told-serves k e o p x y i j h = subst (λ (q : Option Held). ServesTold k e q x) (sym i) (subst (ServesTold k e p) (sym j) h)
+pub told-serves : (k : Shape) (core : Core) (o p : Option Held) (x y : Option (ℕ × Transaction)) → o ≡ p → x ≡ y
+    → ServesTold k core p y
+    → ServesTold k core o x
+told-serves k core o p x y i j h = subst (λ (q : Option Held). ServesTold k core q x) (sym i) (subst (ServesTold k core p) (sym j) h)
 
 -- while a transaction is served, no request is deferred
-pub no-deferred : (w : World) (d : Option Deferred) (x : ℕ × Transaction) → LeavesDeferred w d → w.transaction ≡ Some x → d ≡ None
-no-deferred w None x h e = refl
-no-deferred w (Some d) x h e = absurd (let q = h.none in cc)
+pub no-deferred : (world : World) (d : Option Deferred) (x : ℕ × Transaction) → LeavesDeferred world d
+    → world.transaction ≡ Some x → d ≡ None
+no-deferred world None x h e = refl
+no-deferred world (Some d) x h e = absurd (let q = h.none in cc)
 
 -- where none is deferred, none has to stand
-pub none-left : (w : World) (d : Option Deferred) → d ≡ None → LeavesDeferred w d
-none-left w d e = subst (LeavesDeferred w) (sym e) tt
+pub none-left : (world : World) (d : Option Deferred) → d ≡ None → LeavesDeferred world d
+none-left world d e = subst (LeavesDeferred world) (sym e) tt

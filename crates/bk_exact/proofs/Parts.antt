@@ -5,21 +5,22 @@ use Rattle.std.proofs.lemmas.Bool.Decides.{nat_tests}
 use Rattle.std.specs.Prelude.{nat_lt}
 use Rattle.bk_machine.specs.Entries.{times}
 
-pub and3 : (a b c : Bool) → (a && b && c) ≡ true → (a ≡ true) × (b ≡ true) × (c ≡ true)
-and3 a b c e = let q = and_parts _ _ e in let r = and_parts _ _ q.0 in (r.0, r.1, q.1)
+pub and3 : (a b test : Bool) → (a && b && test) ≡ true → (a ≡ true) × (b ≡ true) × (test ≡ true)
+and3 a b test e = let q = and_parts _ _ e in let r = and_parts _ _ q.0 in (r.0, r.1, q.1)
 
-pub and4 : (a b c d : Bool) → (a && b && c && d) ≡ true → (a ≡ true) × (b ≡ true) × (c ≡ true) × (d ≡ true)
-and4 a b c d e = let q = and_parts _ _ e in let r = and3 a b c q.0 in (r.0, r.1, r.2, q.1)
+pub and4 : (a b test d : Bool) → (a && b && test && d) ≡ true → (a ≡ true) × (b ≡ true) × (test ≡ true) × (d ≡ true)
+and4 a b test d e = let q = and_parts _ _ e in let r = and3 a b test q.0 in (r.0, r.1, r.2, q.1)
 
-pub and5 : (a b c d f : Bool) → (a && b && c && d && f) ≡ true → (a ≡ true) × (b ≡ true) × (c ≡ true) × (d ≡ true) × (f ≡ true)
-and5 a b c d f e = let q = and_parts _ _ e in let r = and4 a b c d q.0 in (r.0, r.1, r.2, r.3, q.1)
+pub and5 : (a b test d f : Bool) → (a && b && test && d && f) ≡ true → (a ≡ true) × (b ≡ true) × (test ≡ true)
+    × (d ≡ true) × (f ≡ true)
+and5 a b test d f e = let q = and_parts _ _ e in let r = and4 a b test d q.0 in (r.0, r.1, r.2, r.3, q.1)
 
-pub and7 : (a b c d f g h : Bool) → (a && b && c && d && f && g && h) ≡ true
-    → (a ≡ true) × (b ≡ true) × (c ≡ true) × (d ≡ true) × (f ≡ true) × (g ≡ true) × (h ≡ true)
-and7 a b c d f g h e =
+pub and7 : (a b test d f also h : Bool) → (a && b && test && d && f && also && h) ≡ true
+    → (a ≡ true) × (b ≡ true) × (test ≡ true) × (d ≡ true) × (f ≡ true) × (also ≡ true) × (h ≡ true)
+and7 a b test d f also h e =
     let q = and_parts _ _ e in
     let p = and_parts _ _ q.0 in
-    let r = and5 a b c d f p.0 in
+    let r = and5 a b test d f p.0 in
     (r.0, r.1, r.2, r.3, r.4, p.1, q.1)
 
 -- a test that holds and doesn't
@@ -32,5 +33,5 @@ some-times c [] e = absurd (omega (arith, e))
 some-times c (x ∷ xs) e = omega arith
 
 -- a number of things is above 0
-pub is-above : (m n : ℕ) → m ≡ n → 0 < n → nat_lt 0 m ≡ true
-is-above m n e l = grind (arith, nat_tests)
+pub is-above : (number n : ℕ) → number ≡ n → 0 < n → nat_lt 0 number ≡ true
+is-above number n e l = grind (arith, nat_tests)

@@ -8,12 +8,12 @@ use Rattle.bk_base.specs.declared.coh.Coh.{Coh}
 use Rattle.bk_base.specs.declared.coh.Coh.TheVariants.{I, S}
 use Rattle.bk_know.specs.Sets.{only, subset}
 use Rattle.bk_flow.specs.Flow.{lacks}
-use Rattle.bk_flow.specs.Values.{OWNER_NONE, OWNER_NONE_F, OTHERS_NO, VICTIM_LIGHT, VICTIM_HEAVY}
+use Rattle.bk_know.specs.declared.values.TheConstants.{OWNER_NONE, OWNER_NONE_F, OTHERS_NO, VICTIM_LIGHT, VICTIM_HEAVY}
 use Rattle.bk_dir.specs.declared.entry.Summary.{Summary}
 use Rattle.bk_engine.specs.declared.parts.RequestKind.{RequestKind}
 use Rattle.bk_engine.specs.declared.parts.RequestKind.TheVariants as kinds
 use Rattle.bk_engine.specs.Heads.{is_placed}
-use Rattle.bk_engine.specs.Reads.{asked_of, summary_for, number_of, owner_number, is_heavy}
+use Rattle.bk_engine.specs.Reads.{query_of, summary_for, number_of, owner_number, is_heavy}
 use Rattle.bk_system.specs.State.{State}
 use Rattle.bk_machine.specs.Entries.{Entry, Holds, is_light}
 use Rattle.bk_machine.specs.Messages.{asks_block, request_tag}
@@ -64,7 +64,8 @@ owner-found k d r t n = go (machine.owner k.caches k.ways d r t) refl n
         record { cache = o; way = found.1.0; is_owner = f; is_way = found.1.1; holds = found.1.2 }
 
 -- with no owner's state there is no owner
-owner-missing : (k : Shape) (d : ℕ → ℕ → Entry) (r t : ℕ) → machine.owner_state k.caches k.ways d r t ≡ I → machine.owner k.caches k.ways d r t ≡ None
+owner-missing : (k : Shape) (d : ℕ → ℕ → Entry) (r t : ℕ) → machine.owner_state k.caches k.ways d r t ≡ I
+    → machine.owner k.caches k.ways d r t ≡ None
 owner-missing k d r t e = go (machine.owner k.caches k.ways d r t) refl
   where
     like : (y : Coh) → is_owner_like y ≡ true → y ≡ I → ⊥
@@ -78,29 +79,31 @@ owner-missing k d r t e = go (machine.owner k.caches k.ways d r t) refl
         (sym (ap (machine.state_of_owner k.ways d t) f ∙ ap (machine.state_at (d o)) found.1.1) ∙ e))
 
 -- a way of the requester that holds the block is found where own is read
-own-found : (ways : ℕ) (d : ℕ → ℕ → Entry) (r t : ℕ) → machine.own ways d r t ≢ I → (v : ℕ) × (machine.own_way ways d r t ≡ Some v)
+own-found : (ways : ℕ) (d : ℕ → ℕ → Entry) (r t : ℕ) → machine.own ways d r t ≢ I → (w : ℕ)
+    × (machine.own_way ways d r t ≡ Some w)
 own-found ways d r t n = go (machine.own_way ways d r t) refl n
   where
-    go : (o : Option ℕ) → machine.own_way ways d r t ≡ o → machine.state_at (d r) o ≢ I → (v : ℕ) × (machine.own_way ways d r t ≡ Some v)
+    go : (o : Option ℕ) → machine.own_way ways d r t ≡ o → machine.state_at (d r) o ≢ I → (w : ℕ)
+        × (machine.own_way ways d r t ≡ Some w)
     go None f q = absurd (q refl)
-    go (Some v) f q = (v, f)
+    go (Some w) f q = (w, f)
 
 -- FOR THE REQUEST THAT IS SERVED
 
-module _ (k : Shape) (n : State) (told : Told) (v : Serving k n told) where
+module _ (k : Shape) (s : State) (told : Told) (v : Serving k s told) where
   open v use {held as h, transaction as x}
 
   abbrev t : ℕ
   t = tag_at k h.addr
 
   abbrev listed : ℕ → ℕ → Entry
-  listed = seen n.engine.directory (group_of k h.addr)
+  listed = seen s.engine.directory (group_of k h.addr)
 
   abbrev pub sum : Summary
-  sum = summary_for k n.engine.directory h
+  sum = summary_for k s.engine.directory h
 
-  pub reads : ReadsAlike k n.engine.directory (asked_of k h) sum
-  reads = reads_alike k n.engine.directory (asked_of k h)
+  pub reads : ReadsAlike k s.engine.directory (query_of k h) sum
+  reads = reads_alike k s.engine.directory (query_of k h)
 
   cache-is : x.cache ≡ h.source
   cache-is = v.serves.serves.cache
@@ -114,7 +117,8 @@ module _ (k : Shape) (n : State) (told : Told) (v : Serving k n told) where
 
   -- the requester's entries of the block are the transaction's
   pub own-holds : (u : ℕ) → Holds (listed h.source u) t → Holds (listed x.cache u) (request_tag x.request)
-  own-holds u e = subst (λ (c : ℕ). Holds (listed c u) (request_tag x.request)) (sym cache-is) (subst (Holds (listed h.source u)) (sym tag-is) e)
+  own-holds u e = subst (λ (c : ℕ). Holds (listed c u) (request_tag x.request)) (sym cache-is)
+      (subst (Holds (listed h.source u)) (sym tag-is) e)
 
   -- the machine's reads for the transaction
   pub own-way : own_way_for k listed x ≡ machine.own_way k.ways listed h.source t
@@ -138,7 +142,8 @@ module _ (k : Shape) (n : State) (told : Told) (v : Serving k n told) where
 
   victim-read : victim_for listed x ≡ sum.victim
   victim-read =
-      (λ i. machine.victim ((ap asks_block v.serves.serves.request ∙ placed h.kind) i) listed (cache-is i) (tag-is i) (v.serves.serves.way i))
+      (λ i. machine.victim ((ap asks_block v.serves.serves.request ∙ placed h.kind) i) listed (cache-is i) (tag-is i)
+      (v.serves.serves.way i))
       ∙ sym reads.victim
     where
       placed : (q : RequestKind) → asks_block (request_by k q h) ≡ is_placed q
@@ -173,17 +178,21 @@ module _ (k : Shape) (n : State) (told : Told) (v : Serving k n told) where
   owner-at f = record { is_owner = owner-same ∙ f.is_owner; is_way = owner-way_same f.cache ∙ f.is_way }
 
   -- the owner of the transaction is that of the request
-  pub at-owner : (c u : ℕ) → OwnerAt k listed x c u → (machine.owner k.caches k.ways listed h.source t ≡ Some c) × (machine.owner_way k.ways listed t c ≡ Some u)
+  pub at-owner : (c u : ℕ) → OwnerAt k listed x c u → (machine.owner k.caches k.ways listed h.source t ≡ Some c)
+      × (machine.owner_way k.ways listed t c ≡ Some u)
   at-owner c u a = (sym owner-same ∙ a.is_owner, sym (owner-way_same c) ∙ a.is_way)
 
   -- it is the place that an instruction names by `owner`
-  pub owner-place : (c u : ℕ) → machine.owner k.caches k.ways listed h.source t ≡ Some c → machine.owner_way k.ways listed t c ≡ Some u
-      → owner_place k h (told_world k n told) ≡ Some (c, u)
+  pub owner-place : (c u : ℕ) → machine.owner k.caches k.ways listed h.source t ≡ Some c
+      → machine.owner_way k.ways listed t c ≡ Some u
+      → owner_place k h (told_world k s told) ≡ Some (c, u)
   owner-place c u i j =
-      ap (option_and_then (λ c. option_map (λ (v : ℕ). (c, v)) (machine.owner_way k.ways listed t c))) i ∙ ap (option_map (λ (v : ℕ). (c, v))) j
+      ap (option_and_then (λ c. option_map (λ (v : ℕ). (c, v)) (machine.owner_way k.ways listed t c))) i
+      ∙ ap (option_map (λ (v : ℕ). (c, v))) j
 
   -- and the engine finds it there too
-  pub owner-listed : (c u : ℕ) → machine.owner k.caches k.ways listed h.source t ≡ Some c → machine.owner_way k.ways listed t c ≡ Some u
+  pub owner-listed : (c u : ℕ) → machine.owner k.caches k.ways listed h.source t ≡ Some c
+      → machine.owner_way k.ways listed t c ≡ Some u
       → sum.owner ≡ Some (c, u)
   owner-listed c u i j = go sum.owner refl
     where
@@ -201,7 +210,7 @@ module _ (k : Shape) (n : State) (told : Told) (v : Serving k n told) where
   pub no-others : (only (number_of (nat_lt 0 sum.others)) == OTHERS_NO) ≡ true → others_for k listed x ≡ []
   no-others q =
       others-same ∙ values.nil-none (machine.others k.caches k.ways listed h.source t)
-      (sym reads.no_others ∙ ap (λ (m : ℕ). m == 0) (values.number-none sum.others q))
+      (sym reads.no_others ∙ ap (λ (n : ℕ). n == 0) (values.number-none sum.others q))
 
   pub light-victim : (only (number_of (is_heavy sum.victim)) == VICTIM_LIGHT) ≡ true → is_light (victim_for listed x) ≡ true
   light-victim q = ap is_light victim-read ∙ values.victim-light sum.victim q

@@ -5,7 +5,7 @@ use Rattle.bk_base.specs.Places.{Shape}
 use Rattle.bk_base.specs.States.{is_readable, is_writable}
 use Rattle.bk_base.specs.declared.coh.Coh.{Coh}
 use Rattle.bk_know.specs.Sets.{only}
-use Rattle.bk_flow.specs.Values.{STAGE_HELD, STAGE_CLOSING, MEM_WRITTEN, GP_FREE}
+use Rattle.bk_know.specs.declared.values.TheConstants.{STAGE_HELD, STAGE_CLOSING, MEM_WRITTEN, GP_FREE}
 use Rattle.bk_flow.specs.Flow.{only_debt, only_down}
 use Rattle.bk_order.proofs.Filled.{Filled, filled-some}
 use Rattle.bk_order.proofs.Subsets.{only-some}
@@ -16,16 +16,16 @@ use Rattle.bk_engine.specs.Reads.{gp_value}
 use Rattle.bk_system.specs.State.{State}
 use Rattle.bk_machine.specs.Entries.{Entry}
 use Rattle.bk_machine.specs.Invariant.{RecordOf}
-use Rattle.bk_machine.specs.Transactions.{WriteBack, Idle, Asked, Kept, Reading, NotRead, ReadAsked, Got, Debt, Transaction}
+use Rattle.bk_machine.specs.Transactions.{WriteBack, Idle, FlushAsked, FlushKept, Reading, NotRead, ReadAsked, Got, Debt, Transaction}
 use Rattle.bk_exact.specs.Told.{Told, Deferred}
 use Rattle.bk_exact.specs.Exact.{exact, stage_of, write_back_value, reading_value, requester_debt_value, owner_debt_value, wb_of, mem_of, dreq_of, down_of, gp_of}
 use Rattle.bk_exact.specs.Runs.{ExactAreSome}
 use Rattle.bk_exact.specs.Ties.{Tied, told_world}
 
 -- either of two sets that have a value
-if-some : (b : Bool) (m n : ℕ) → (m == 0) ≡ false → (n == 0) ≡ false → ((if b then m else n) == 0) ≡ false
-if-some true m n p q = p
-if-some false m n p q = q
+if-some : (b : Bool) (number n : ℕ) → (number == 0) ≡ false → (n == 0) ≡ false → ((if b then number else n) == 0) ≡ false
+if-some true number n p q = p
+if-some false number n p q = q
 
 -- THE FIELDS of the transaction, and gp
 stage-some : (x : Option (ℕ × Transaction)) (d : Option Deferred) → (stage_of x d == 0) ≡ false
@@ -42,8 +42,8 @@ wb-some (Some x) = lem x.1.write_back
   where
     lem : (b : WriteBack) → (write_back_value b == 0) ≡ false
     lem Idle = refl
-    lem Asked = refl
-    lem (Kept b) = refl
+    lem FlushAsked = refl
+    lem (FlushKept b) = refl
 
 mem-some : (x : Option (ℕ × Transaction)) → (mem_of x == 0) ≡ false
 mem-some None = refl
@@ -62,27 +62,31 @@ down-state : (y : Coh) → is_writable y ≡ false → (only_down y == 0) ≡ fa
 down-state y e = grind arith
 
 -- by the machine's record of the debts
-dreq-some : (k : Shape) (x : Option (ℕ × Transaction)) (d : ℕ → ℕ → ℕ → Entry) → RecordOf k x d → (dreq_of x == 0) ≡ false
+dreq-some : (k : Shape) (x : Option (ℕ × Transaction)) (d : ℕ → ℕ → ℕ → Entry) → RecordOf k x d
+    → (dreq_of x == 0) ≡ false
 dreq-some k None d r = refl
 dreq-some k (Some x) d r = go x.1.requester_debt refl
   where
     go : (o : Option Debt) → x.1.requester_debt ≡ o → (requester_debt_value o == 0) ≡ false
     go None i = refl
-    go (Some b) i = debt-some b.held.state (r.requester b i).holds.is_valid
+    go (Some b) i = debt-some b.entry.state (r.requester b i).holds.is_valid
 
-down-some : (k : Shape) (x : Option (ℕ × Transaction)) (d : ℕ → ℕ → ℕ → Entry) → RecordOf k x d → (down_of x == 0) ≡ false
+down-some : (k : Shape) (x : Option (ℕ × Transaction)) (d : ℕ → ℕ → ℕ → Entry) → RecordOf k x d
+    → (down_of x == 0) ≡ false
 down-some k None d r = refl
 down-some k (Some x) d r = go x.1.owner_debt refl
   where
     go : (o : Option Debt) → x.1.owner_debt ≡ o → (owner_debt_value o == 0) ≡ false
     go None i = refl
-    go (Some b) i = down-state b.held.state (r.owner b i).weaker
+    go (Some b) i = down-state b.entry.state (r.owner b i).weaker
 
-pub exact-filled : (k : Shape) (n : State) (told : Told) → Tied k n told → Filled (exact k n.engine told)
-exact-filled k n told tied = record {
+-- Most fields hold the one value that the engine has now; the others have a value in each case of the transaction. A debt has one
+-- because the machine's record lets the requester be owed only a valid state, and the owner only one that may not be written.
+pub exact-filled : (k : Shape) (s : State) (told : Told) → Tied k s told → Filled (exact k s.engine told)
+exact-filled k s told tied = record {
   stage = stage-some told.transaction told.deferred;
   head = only-some _;
-  gp = gp-some n.engine.directory k n.engine.core.head;
+  gp = gp-some s.engine.directory k s.engine.core.head;
   kind = only-some _;
   summ = only-some _;
   own = only-some _;
@@ -92,8 +96,8 @@ exact-filled k n told tied = record {
   acks = only-some _;
   wb = wb-some told.transaction;
   mem = mem-some told.transaction;
-  dreq = dreq-some k told.transaction (told_world k n told).directory tied.invariant.recorded;
-  down = down-some k told.transaction (told_world k n told).directory tied.invariant.recorded;
+  dreq = dreq-some k told.transaction (told_world k s told).directory tied.invariant.recorded;
+  down = down-some k told.transaction (told_world k s told).directory tied.invariant.recorded;
   f0 = only-some _;
   f1 = only-some _;
   f2 = only-some _;

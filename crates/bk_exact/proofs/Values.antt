@@ -8,20 +8,19 @@ use Rattle.bk_base.specs.States.{is_writable}
 use Rattle.bk_base.specs.Counting.{is_nil}
 use Rattle.bk_know.specs.Sets.{only, subset}
 use Rattle.bk_flow.specs.Flow.{lacks, only_debt, only_down}
-use Rattle.bk_flow.specs.Values.{HEAD_NONE, SUMM_SUM, STAGE_IDLE, STAGE_HELD, STAGE_CLOSING, DREQ_PAID, DREQ_S, DREQ_E, DREQ_F, DREQ_M, DREQ_O, DOWN_PAID, OWN_I, OWN_I_S, OWN_I_S_F, OWN_S_F_O, OWNER_NONE, OWNER_F, OWNER_NONE_F, VICTIM_LIGHT, VICTIM_HEAVY, ACKS_ZERO, WB_IDLE, WB_DIRTY, MEM_IDLE, MEM_ASKED, MEM_GOT, MEM_WRITTEN, KIND_WR, KIND_UC_RD, KIND_UC_WR, KIND_EVICT}
+use Rattle.bk_know.specs.declared.values.TheConstants.{HEAD_NONE, SUMM_SUM, STAGE_IDLE, STAGE_HELD, STAGE_CLOSING, DREQ_PAID, DREQ_S, DREQ_E, DREQ_F, DREQ_M, DREQ_O, DOWN_PAID, OWN_I, OWN_I_S, OWN_I_S_F, OWN_S_F_O, OWNER_NONE, OWNER_F, OWNER_NONE_F, VICTIM_LIGHT, VICTIM_HEAVY, ACKS_ZERO, WB_IDLE, WB_DIRTY, MEM_IDLE, MEM_ASKED, MEM_GOT, MEM_WRITTEN, KIND_WR, KIND_UC_RD, KIND_UC_WR, KIND_EVICT}
 use Rattle.bk_engine.specs.Reads.{number_of, own_number, owner_number, is_heavy}
 use Rattle.bk_machine.specs.Entries.{is_light}
-use Rattle.bk_machine.specs.Messages.{Block}
+use Rattle.bk_machine.specs.Messages.{MemoryBlock}
 use Rattle.bk_machine.specs.Actions.{NoGranted}
-use Rattle.bk_machine.specs.Transactions.{WriteBack, Idle, Asked, Kept, Reading, NotRead, ReadAsked, Got, Debt, Transaction, is_asked}
+use Rattle.bk_machine.specs.Transactions.{WriteBack, Idle, FlushAsked, FlushKept, Reading, NotRead, ReadAsked, Got, Debt, Transaction, is_asked}
 use Rattle.bk_engine.specs.declared.parts.RequestKind.{RequestKind}
 use Rattle.bk_engine.specs.declared.parts.RequestKind.TheVariants as kinds
-use Rattle.bk_engine.specs.Heads.{kind_number}
+use Rattle.bk_engine.specs.Heads.{kind_number, head_value}
 use Rattle.std.proofs.lemmas.Bool.{cases_eq, eqb-true}
 use Rattle.std.specs.Int.{bit_at}
 use Rattle.std.proofs.lemmas.Nat.Bits.{bit_at-pow_same, bit_at-pow_other}
 use Rattle.bk_engine.specs.declared.parts.Head.{Head}
-use Rattle.bk_engine.specs.Heads.{head_value}
 use Rattle.bk_exact.specs.Told.{Deferred}
 use Rattle.bk_exact.specs.Exact.{stage_of, write_back_value, reading_value, requester_debt_value, owner_debt_value}
 
@@ -78,15 +77,17 @@ nil-none (x ∷ xs) e = absurd (cc)
 pub wb-idle : (b : WriteBack) → (write_back_value b == WB_IDLE) ≡ true → b ≡ Idle
 wb-idle b e = grind arith
 
-pub wb-dirty : (b : WriteBack) → (write_back_value b == WB_DIRTY) ≡ true → (q : Block) × (b ≡ Kept q)
+pub wb-dirty : (b : WriteBack) → (write_back_value b == WB_DIRTY) ≡ true → (q : MemoryBlock) × (b ≡ FlushKept q)
 wb-dirty Idle e = absurd (cc)
-wb-dirty Asked e = absurd (cc)
-wb-dirty (Kept q) e = (q, refl)
+wb-dirty FlushAsked e = absurd (cc)
+wb-dirty (FlushKept q) e = (q, refl)
 
-pub mem-idle : (b : Bool) (r : Reading) → ((if b then MEM_WRITTEN else reading_value r) == MEM_IDLE) ≡ true → (b ≡ false) × (r ≡ NotRead)
+pub mem-idle : (b : Bool) (r : Reading) → ((if b then MEM_WRITTEN else reading_value r) == MEM_IDLE) ≡ true
+    → (b ≡ false) × (r ≡ NotRead)
 mem-idle b r e = (grind arith, grind arith)
 
-pub mem-got : (b : Bool) (r : Reading) → ((if b then MEM_WRITTEN else reading_value r) == MEM_GOT) ≡ true → (ws : ℕ → ℕ) × (r ≡ Got ws)
+pub mem-got : (b : Bool) (r : Reading) → ((if b then MEM_WRITTEN else reading_value r) == MEM_GOT) ≡ true
+    → (ws : ℕ → ℕ) × (r ≡ Got ws)
 mem-got b NotRead e = absurd (grind arith)
 mem-got b ReadAsked e = absurd (grind arith)
 mem-got b (Got ws) e = (ws, refl)
@@ -95,14 +96,16 @@ pub mem-written : (b : Bool) (r : Reading) → ((if b then MEM_WRITTEN else read
 mem-written b r e = grind arith
 
 -- a word is written for a request that reads nothing
-pub mem-unasked : (b : Bool) (r : Reading) → (b ≡ true → r ≡ NotRead) → lacks (if b then MEM_WRITTEN else reading_value r) MEM_ASKED ≡ true
+pub mem-unasked : (b : Bool) (r : Reading) → (b ≡ true → r ≡ NotRead)
+    → lacks (if b then MEM_WRITTEN else reading_value r) MEM_ASKED ≡ true
     → is_asked r ≡ false
 mem-unasked true r w e = ap is_asked (w refl)
 mem-unasked false r w e = grind arith
 
 -- the state that a debt's value stands for
 abbrev debt_state : ℕ → Coh
-debt_state n = if n == DREQ_S then S else if n == DREQ_E then E else if n == DREQ_F then F else if n == DREQ_M then M else if n == DREQ_O then O else I
+debt_state n = if n == DREQ_S then S else if n == DREQ_E then E else if n == DREQ_F then F else if n == DREQ_M then M else if n == DREQ_O
+    then O else I
 
 debt-again : (y : Coh) → debt_state (only_debt y) ≡ y
 debt-again I = refl
@@ -113,22 +116,29 @@ debt-again M = refl
 debt-again O = refl
 
 -- the requester's debt is one of this state
-pub dreq-is : (o : Option Debt) (y : Coh) → (requester_debt_value o == only_debt y) ≡ true → (d : Debt) × (o ≡ Some d) × (d.held.state ≡ y)
+pub dreq-is : (o : Option Debt) (y : Coh) → (requester_debt_value o == only_debt y) ≡ true
+    → (debt : Debt) × (o ≡ Some debt) × (debt.entry.state ≡ y)
 dreq-is None y e = absurd (grind arith)
-dreq-is (Some d) y e = (d, refl, sym (debt-again d.held.state) ∙ ap debt_state (eqb-true (only_debt d.held.state) (only_debt y) e) ∙ debt-again y)
+dreq-is (Some debt) y e = (
+  debt,
+  refl,
+  sym (debt-again debt.entry.state) ∙ ap debt_state (eqb-true (only_debt debt.entry.state) (only_debt y) e)
+      ∙ debt-again y,
+)
 
 pub dreq-paid : (o : Option Debt) → (requester_debt_value o == DREQ_PAID) ≡ true → o ≡ None
 dreq-paid None e = refl
 dreq-paid (Some d) e = grind arith
 
 -- an owner's debt is never in E or M, so its value names its state
-pub down-same : (x y : Coh) → is_writable x ≡ false → (only_down x == only_down y) ≡ true → x ≡ y
-down-same x y w e = grind arith
+pub down-same : (state y : Coh) → is_writable state ≡ false → (only_down state == only_down y) ≡ true → state ≡ y
+down-same state y w e = grind arith
 
-pub down-is : (o : Option Debt) (y : Coh) → ((d : Debt) → o ≡ Some d → is_writable d.held.state ≡ false) → (owner_debt_value o == only_down y) ≡ true
-    → (d : Debt) × (o ≡ Some d) × (d.held.state ≡ y)
+pub down-is : (o : Option Debt) (y : Coh) → ((debt : Debt) → o ≡ Some debt → is_writable debt.entry.state ≡ false)
+    → (owner_debt_value o == only_down y) ≡ true
+    → (debt : Debt) × (o ≡ Some debt) × (debt.entry.state ≡ y)
 down-is None y w e = absurd (grind arith)
-down-is (Some d) y w e = (d, refl, down-same d.held.state y (w d refl) e)
+down-is (Some debt) y w e = (debt, refl, down-same debt.entry.state y (w debt refl) e)
 
 pub down-paid : (o : Option Debt) → (owner_debt_value o == DOWN_PAID) ≡ true → o ≡ None
 down-paid None e = refl
@@ -162,11 +172,13 @@ stage-closing None None e = absurd (cc)
 stage-closing None (Some d) e = absurd (cc)
 stage-closing (Some y) d e = (y, refl, grind arith)
 
-pub stage-not_closing : (x : Option (ℕ × Transaction)) (d : Option Deferred) → lacks (stage_of x d) STAGE_CLOSING ≡ true → NoGranted x
+pub stage-not_closing : (x : Option (ℕ × Transaction)) (d : Option Deferred) → lacks (stage_of x d) STAGE_CLOSING ≡ true
+    → NoGranted x
 stage-not_closing None d e = tt
 stage-not_closing (Some y) d e = grind arith
 
-pub stage-idle : (x : Option (ℕ × Transaction)) (d : Option Deferred) → (stage_of x d == STAGE_IDLE) ≡ true → (x ≡ None) × (d ≡ None)
+pub stage-idle : (x : Option (ℕ × Transaction)) (d : Option Deferred) → (stage_of x d == STAGE_IDLE) ≡ true
+    → (x ≡ None) × (d ≡ None)
 stage-idle None None e = (refl, refl)
 stage-idle None (Some d) e = absurd (cc)
 stage-idle (Some y) d e = (grind arith, grind arith)
@@ -174,15 +186,15 @@ stage-idle (Some y) d e = (grind arith, grind arith)
 -- ONE VALUE ALONE
 
 -- a set of one value that is another set of one value has the same value
-pub only-is : (k v : ℕ) → (only v == 2 ^ k) ≡ true → v ≡ k
-only-is k v e =
-    elim (cases_eq v k) [
+pub only-is : (j w : ℕ) → (only w == 2 ^ j) ≡ true → w ≡ j
+only-is j w e =
+    elim (cases_eq w j) [
       | inl i ↦ i
       | inr ne ↦
-          let z = bit_at-pow_other v k (λ i. ne (sym i)) in
-          let o = bit_at-pow_same k in
-          let q : 2 ^ v ≡ 2 ^ k = eqb-true (2 ^ v) (2 ^ k) e in
-          absurd (zero-one (sym z ∙ ap (λ (m : ℕ). bit_at m k) q ∙ o))
+          let z = bit_at-pow_other w j (λ i. ne (sym i)) in
+          let o = bit_at-pow_same j in
+          let q : 2 ^ w ≡ 2 ^ j = eqb-true (2 ^ w) (2 ^ j) e in
+          absurd (zero-one (sym z ∙ ap (λ (n : ℕ). bit_at n j) q ∙ o))
     ]
   where
     zero-one : ◌≡◌ {A = ℕ} 0 1 → ⊥
@@ -192,5 +204,5 @@ pub head-none : (o : Option Head) → (only (head_value o) == HEAD_NONE) ≡ tru
 head-none None e = refl
 head-none (Some head) e = absurd (grind arith)
 
-pub summ-sum : (v : ℕ) → (only v == SUMM_SUM) ≡ true → v ≡ 2
-summ-sum v e = only-is 2 v e
+pub summ-sum : (w : ℕ) → (only w == SUMM_SUM) ≡ true → w ≡ 2
+summ-sum w e = only-is 2 w e

@@ -20,17 +20,17 @@ use Rattle.bk_exact.specs.Ties.{Tied, told_world}
 
 -- what is told after the instruction at the engine's place, if there is one
 abbrev pub told_by : Shape → State → Told → Option Form → Told
-told_by k n told None = told
-told_by k n told (Some f) = told_after k n.engine.core (told_world k n told) f told
+told_by k s told None = told
+told_by k s told (Some f) = told_after k s.engine.core (told_world k s told) f told
 
 -- what is told after an event: an instruction that runs alone tells something
 abbrev pub told_next : Shape → List Form → State → Told → Event → Told
-told_next k program n told (events.Engine choice) =
-    if can_run k program n choice then told_by k n told (slice_get program n.engine.core.place) else told
-told_next k program n told (events.Issue c op way) = told
-told_next k program n told (events.Command c) = told
-told_next k program n told (events.Fill to from) = told
-told_next k program n told events.Memory = told
+told_next k program s told (events.Engine choice) =
+    if can_run k program s choice then told_by k s told (slice_get program s.engine.core.place) else told
+told_next k program s told (events.Issue c op way) = told
+told_next k program s told (events.Command c) = told
+told_next k program s told (events.Fill to from) = told
+told_next k program s told events.Memory = told
 
 -- the operands of each instruction are in the ranges that its form gives them
 abbrev pub AreInRange : List Form → Type 0
@@ -38,20 +38,20 @@ AreInRange program = (p : ℕ) (f : Form) → slice_get program p ≡ Some f →
 
 -- the exact mask meets the obligations at the engine's place
 abbrev pub IsMet : Shape → List Form → State → Told → Type 0
-IsMet k program n told = (f : Form) → slice_get program n.engine.core.place ≡ Some f → unmet_here f (exact k n.engine told) ≡ None
+IsMet k program s told = (f : Form) → slice_get program s.engine.core.place ≡ Some f → unmet_here f (exact k s.engine told) ≡ None
 
 -- an instruction's action is there, and is permitted
-pub record Acts (k : Shape) (n : State) (told : Told) (f : Form) : Type 0 where
+pub record Acts (k : Shape) (s : State) (told : Told) (f : Form) : Type 0 where
   pub group : ℕ
   pub action : Action
-  pub is : action_at k n.engine.core (told_world k n told) f ≡ Some (group, action)
-  pub permitted : Permitted k group action (told_world k n told)
+  pub is : action_at k s.engine.core (told_world k s told) f ≡ Some (group, action)
+  pub permitted : Permitted k group action (told_world k s told)
 
 -- the instruction at the engine's place does what a permitted action of the machine does
-pub record IsAction (k : Shape) (program : List Form) (n : State) (told : Told) (choice : Choice) (f : Form) : Type 0 where
-  pub acts : Acts k n told f
-  pub world : told_world k (after k program n (events.Engine choice)) (told_after k n.engine.core (told_world k n told) f told)
-      ≡ action_after acts.group acts.action (told_world k n told)
+pub record IsAction (k : Shape) (program : List Form) (s : State) (told : Told) (choice : Choice) (f : Form) : Type 0 where
+  pub acts : Acts k s told f
+  pub world : told_world k (after k program s (events.Engine choice)) (told_after k s.engine.core (told_world k s told) f told)
+      ≡ action_after acts.group acts.action (told_world k s told)
 
 -- THE STATEMENTS
 
@@ -61,15 +61,16 @@ OpensTied = (k : Shape) → InProfile k → Tied k (opening k) untold
 
 -- Each event keeps the tie, if the exact mask meets the obligations at the engine's place.
 abbrev pub EventsTie : Type 0
-EventsTie = (k : Shape) (program : List Form) (n : State) (told : Told) (e : Event)
-    → InProfile k → AreInRange program → IsLawful e → IsMet k program n told → Tied k n told → Tied k (after k program n e) (told_next k program n told e)
+EventsTie = (k : Shape) (program : List Form) (s : State) (told : Told) (event : Event)
+    → InProfile k → AreInRange program → IsLawful event → IsMet k program s told → Tied k s told
+    → Tied k (after k program s event) (told_next k program s told event)
 
 -- An instruction that runs, whose obligations the exact mask meets, is a permitted action.
 abbrev pub InstructionsAct : Type 0
-InstructionsAct = (k : Shape) (program : List Form) (n : State) (told : Told) (choice : Choice) (f : Form)
-    → InProfile k → IsInRange f → slice_get program n.engine.core.place ≡ Some f → can_run k program n choice ≡ true
-    → unmet_here f (exact k n.engine told) ≡ None → Tied k n told → IsAction k program n told choice f
+InstructionsAct = (k : Shape) (program : List Form) (s : State) (told : Told) (choice : Choice) (f : Form)
+    → InProfile k → IsInRange f → slice_get program s.engine.core.place ≡ Some f → can_run k program s choice ≡ true
+    → unmet_here f (exact k s.engine told) ≡ None → Tied k s told → IsAction k program s told choice f
 
 -- an exact mask leaves no field empty
 abbrev pub ExactAreSome : Type 0
-ExactAreSome = (k : Shape) (n : State) (told : Told) → Tied k n told → any_empty (exact k n.engine told) ≡ false
+ExactAreSome = (k : Shape) (s : State) (told : Told) → Tied k s told → any_empty (exact k s.engine told) ≡ false

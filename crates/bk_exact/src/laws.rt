@@ -1,6 +1,6 @@
 ghost use Rattle.std.specs.Prelude.{◌≡◌};
 ghost use Rattle.bk_base.specs.Places.{Shape};
-ghost use Rattle.bk_engine.specs.Core.{new_engine};
+ghost use Rattle.bk_engine.specs.Engine.{new_engine};
 ghost use Rattle.bk_exact.specs.Told.{untold};
 ghost use Rattle.bk_exact.specs.Exact.{exact};
 ghost use Rattle.bk_exact.specs.Runs.{OpensTied, EventsTie, InstructionsAct, ExactAreSome};

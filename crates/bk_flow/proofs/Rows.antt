@@ -2,11 +2,8 @@
 use Rattle.std.proofs.Common.{◌≡◌, Some, None, refl}
 use Rattle.bk_base.specs.declared.coh.Coh.TheVariants.{I, S, O}
 use Rattle.bk_isa.specs.declared.form.Form.TheVariants.{Wfq, Bk, Popq, Bi, Beq, Stwb, Tr, Andf}
-use Rattle.bk_know.specs.declared.sets.Sets.{Sets}
-use Rattle.bk_flow.specs.Flow.{idle, held_with, fall, jump, left, set_not, set_and, set_or, acks_after, awake}
-
-abbrev held : Sets
-held = held_with idle
+use Rattle.bk_know.specs.Sets.{idle_base as idle, held_base as held}
+use Rattle.bk_flow.specs.Flow.{fall, jump, left, set_not, set_and, set_or, acks_after, awake}
 
 -- nothing can be popped where there is no head, and a wait for memory ends only where memory was asked
 no-head : fall (Popq 0) idle ≡ None

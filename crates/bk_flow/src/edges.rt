@@ -5,8 +5,9 @@ ghost use Rattle.bk_flow.specs.Flow.{own_of_kind, cut_own, existing, keep_values
 
 use crate::flow::left;
 use crate::masks::with_field;
-use crate::values::{FIELD_KIND, KIND_RD, KIND_WR, OWN_I, OWN_I_S_F_O, STAGE_HELD};
 use bk_isa::Form;
+use bk_know::fields::FIELD_KIND;
+use bk_know::values::{KIND_RD, KIND_WR, OWN_I, OWN_I_S_F_O, STAGE_HELD};
 use bk_know::{Sets, any_empty, field};
 
 /// A cache that reads finds no copy of its own, and one that writes none that it may write.

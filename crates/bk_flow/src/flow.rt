@@ -7,15 +7,18 @@ use crate::masks::{
     flag, held_with, idle_with, is_shared, lacks, may, nothing, only_debt, only_down, only_state,
     set_and, set_not, set_or, when, with_flag,
 };
-use crate::values::{
-    ACKS_ANY, ACKS_SOME, CLASS_MEM, CLASS_REQ, CLASS_RESP, DOWN_PAID, DREQ_M, DREQ_PAID, FLAG_0,
-    FLAG_1, GP_ANY, GP_FREE, HEAD_BLOCK, HEAD_COH_ACK, HEAD_INV_ACK, HEAD_NONE, HEAD_NULL_WB,
-    HEAD_REQUEST, HEAD_WB, HEAD_WB_NULL_WB, MEM_ASKED, MEM_GOT, MEM_WRITTEN, OTHERS_NO, OTHERS_YES,
-    OWNER_NONE, STAGE_BLOCKED, STAGE_CLOSING, STAGE_IDLE, STAGE_IDLE_HELD_CLOSING, SUMM_ROW,
-    SUMM_SUM, VICTIM_LIGHT, WB_ASKED, WB_DIRTY, WB_IDLE, WHOSE_OWN, WHOSE_OWNER, WITH_OWNER,
-};
 use bk_base::Coh;
 use bk_isa::Form;
+use bk_isa::operand::{
+    CLASS_MEMORY, CLASS_REQUESTS, CLASS_RESPONSES, WHOSE_OWN, WHOSE_OWNER, WITH_OWNER,
+};
+use bk_know::values::{
+    ACKS_ANY, ACKS_SOME, DOWN_PAID, DREQ_M, DREQ_PAID, FLAG_CLEAR, FLAG_SET, GP_ANY, GP_FREE,
+    HEAD_BLOCK, HEAD_COH_ACK, HEAD_INV_ACK, HEAD_NONE, HEAD_NULL_WB, HEAD_REQUEST, HEAD_WB,
+    HEAD_WB_NULL_WB, MEM_ASKED, MEM_GOT, MEM_WRITTEN, OTHERS_NO, OTHERS_YES, OWNER_NONE,
+    STAGE_BLOCKED, STAGE_CLOSING, STAGE_IDLE, STAGE_IDLE_HELD_CLOSING, SUMM_ROW, SUMM_SUM,
+    VICTIM_LIGHT, WB_ASKED, WB_DIRTY, WB_IDLE,
+};
 use bk_know::{Sets, union};
 
 /// The heads that a wait for these classes may find. A response is a CohAck; it may be an InvAck
@@ -24,13 +27,13 @@ use bk_know::{Sets, union};
 fn heads(classes: u8, sets: Sets) -> u8
     ensures { result ≡ heads classes sets }
 {
-    let response = may(classes, CLASS_RESP);
-    when(may(classes, CLASS_REQ), HEAD_REQUEST)
+    let response = may(classes, CLASS_RESPONSES);
+    when(may(classes, CLASS_REQUESTS), HEAD_REQUEST)
         | when(response, HEAD_COH_ACK)
         | when(response && may(sets.acks, ACKS_SOME), HEAD_INV_ACK)
         | when(response && may(sets.wb, WB_ASKED), HEAD_WB_NULL_WB)
         | when(
-            may(classes, CLASS_MEM) && may(sets.mem, MEM_ASKED),
+            may(classes, CLASS_MEMORY) && may(sets.mem, MEM_ASKED),
             HEAD_BLOCK,
         )
 }
@@ -39,7 +42,7 @@ fn heads(classes: u8, sets: Sets) -> u8
 fn wait(classes: u8, sets: Sets) -> Sets
     ensures { result ≡ wait classes sets }
 {
-    let gp = if may(classes, CLASS_REQ) {
+    let gp = if may(classes, CLASS_REQUESTS) {
         GP_ANY
     } else {
         GP_FREE
@@ -243,8 +246,8 @@ pub fn left(form: Form, sets: Sets) -> Sets
     ensures { result ≡ left form sets }
 {
     match form {
-        Form::Sf { a } => with_flag(sets, a, FLAG_1),
-        Form::Cf { a } => with_flag(sets, a, FLAG_0),
+        Form::Sf { a } => with_flag(sets, a, FLAG_SET),
+        Form::Cf { a } => with_flag(sets, a, FLAG_CLEAR),
         Form::Nf { a } => with_flag(sets, a, set_not(flag(sets, a))),
         Form::Movf { a, b } => with_flag(sets, a, flag(sets, b)),
         Form::Andf { a, b } => with_flag(sets, a, set_and(flag(sets, a), flag(sets, b))),

@@ -5,7 +5,6 @@
 mod edges;
 mod flow;
 mod masks;
-pub mod values;
 
 pub use edges::{fall, jump, target};
 pub use masks::{lacks, may, only_debt, only_down, start};

@@ -3,16 +3,16 @@
 ghost use Rattle.std.specs.Prelude.{◌≡◌, if◌then◌else◌};
 ghost use Rattle.bk_flow.specs.Flow.{may, lacks, when, only_state, only_debt, only_down, is_shared, flag, with_flag, set_not, set_and, set_or, is_before_f3, with_field, idle_with, held_with, nothing, start};
 
-use crate::values::{
-    ACKS_ZERO, DOWN_F, DOWN_I, DOWN_O, DOWN_PAID, DOWN_S, DREQ_E, DREQ_F, DREQ_M, DREQ_O,
-    DREQ_PAID, DREQ_S, FIELD_ACKS, FIELD_F0, FIELD_F1, FIELD_F2, FIELD_GP, FIELD_HEAD, FIELD_KIND,
-    FIELD_OTHERS, FIELD_OWN, FIELD_OWNER, FIELD_VICTIM, FLAG_0, FLAG_1, GP_FREE, HEAD_NONE,
-    KIND_ANY, KIND_RD, MEM_IDLE, OTHERS_ANY, OTHERS_NO, OWN_ANY, OWN_E, OWN_F, OWN_I, OWN_M, OWN_O,
-    OWN_S, OWNER_ANY, OWNER_NONE, STAGE_HELD, STAGE_IDLE, SUMM_NO, VICTIM_ANY, VICTIM_LIGHT,
-    WB_IDLE,
-};
 use bk_base::Coh;
-use bk_know::Sets;
+use bk_know::fields::{
+    FIELD_ACKS, FIELD_F0, FIELD_F1, FIELD_F2, FIELD_GP, FIELD_HEAD, FIELD_KIND, FIELD_OTHERS,
+    FIELD_OWN, FIELD_OWNER, FIELD_VICTIM,
+};
+use bk_know::values::{
+    DOWN_F, DOWN_I, DOWN_O, DOWN_S, DREQ_E, DREQ_F, DREQ_M, DREQ_O, DREQ_S, FLAG_CLEAR, FLAG_SET,
+    OWN_E, OWN_F, OWN_I, OWN_M, OWN_O, OWN_S,
+};
+use bk_know::{Sets, held, idle};
 
 /// Whether a field may have one of the values.
 pub fn may(set: u8, values: u8) -> bool
@@ -121,21 +121,23 @@ pub fn with_flag(sets: Sets, a: u8, values: u8) -> Sets
 pub fn set_not(a: u8) -> u8
     ensures { result ≡ set_not a }
 {
-    when(may(a, FLAG_1), FLAG_0) | when(may(a, FLAG_0), FLAG_1)
+    when(may(a, FLAG_SET), FLAG_CLEAR) | when(may(a, FLAG_CLEAR), FLAG_SET)
 }
 
 /// The values of the conjunction of two flags.
 pub fn set_and(a: u8, b: u8) -> u8
     ensures { result ≡ set_and a b }
 {
-    when(may(a, FLAG_0) || may(b, FLAG_0), FLAG_0) | when(may(a, FLAG_1) && may(b, FLAG_1), FLAG_1)
+    when(may(a, FLAG_CLEAR) || may(b, FLAG_CLEAR), FLAG_CLEAR)
+        | when(may(a, FLAG_SET) && may(b, FLAG_SET), FLAG_SET)
 }
 
 /// The values of the disjunction of two flags.
 pub fn set_or(a: u8, b: u8) -> u8
     ensures { result ≡ set_or a b }
 {
-    when(may(a, FLAG_0) && may(b, FLAG_0), FLAG_0) | when(may(a, FLAG_1) || may(b, FLAG_1), FLAG_1)
+    when(may(a, FLAG_CLEAR) && may(b, FLAG_CLEAR), FLAG_CLEAR)
+        | when(may(a, FLAG_SET) || may(b, FLAG_SET), FLAG_SET)
 }
 
 /// Whether the number is that of a field that `bk` tests, other than f3.
@@ -181,21 +183,11 @@ pub fn idle_with(sets: Sets) -> Sets
     ensures { result ≡ idle_with sets }
 {
     Sets {
-        stage: STAGE_IDLE,
-        head: HEAD_NONE,
-        gp: GP_FREE,
-        kind: KIND_RD,
-        summ: SUMM_NO,
-        own: OWN_I,
-        owner: OWNER_NONE,
-        others: OTHERS_NO,
-        victim: VICTIM_LIGHT,
-        acks: ACKS_ZERO,
-        wb: WB_IDLE,
-        mem: MEM_IDLE,
-        dreq: DREQ_PAID,
-        down: DOWN_PAID,
-        ..sets
+        f0: sets.f0,
+        f1: sets.f1,
+        f2: sets.f2,
+        f3: sets.f3,
+        ..idle().sets()
     }
 }
 
@@ -205,21 +197,11 @@ pub fn held_with(sets: Sets) -> Sets
     ensures { result ≡ held_with sets }
 {
     Sets {
-        stage: STAGE_HELD,
-        head: HEAD_NONE,
-        gp: GP_FREE,
-        kind: KIND_ANY,
-        summ: SUMM_NO,
-        own: OWN_ANY,
-        owner: OWNER_ANY,
-        others: OTHERS_ANY,
-        victim: VICTIM_ANY,
-        acks: ACKS_ZERO,
-        wb: WB_IDLE,
-        mem: MEM_IDLE,
-        dreq: DREQ_PAID,
-        down: DOWN_PAID,
-        ..sets
+        f0: sets.f0,
+        f1: sets.f1,
+        f2: sets.f2,
+        f3: sets.f3,
+        ..held().sets()
     }
 }
 
@@ -253,11 +235,11 @@ pub fn nothing() -> Sets
 pub fn start() -> Sets
     ensures { result ≡ start }
 {
-    idle_with(Sets {
-        f0: FLAG_0,
-        f1: FLAG_0,
-        f2: FLAG_0,
-        f3: FLAG_0,
-        ..nothing()
-    })
+    Sets {
+        f0: FLAG_CLEAR,
+        f1: FLAG_CLEAR,
+        f2: FLAG_CLEAR,
+        f3: FLAG_CLEAR,
+        ..idle().sets()
+    }
 }

@@ -20,7 +20,7 @@ use Rattle.bk_isa.proofs.Operands.{operands}
 use Rattle.bk_know.specs.declared.sets.Sets.{Sets}
 use Rattle.bk_know.specs.Sets.{only}
 use Rattle.bk_flow.specs.Flow.{existing, keep_values, lose_values, own_of_kind}
-use Rattle.bk_flow.specs.Values.{HEAD_REQUEST, STAGE_HELD, KIND_RD, KIND_WR, OWN_I, OWN_I_S_F_O, GP_FREE}
+use Rattle.bk_know.specs.declared.values.TheConstants.{HEAD_REQUEST, STAGE_HELD, KIND_RD, KIND_WR, OWN_I, OWN_I_S_F_O, GP_FREE}
 use Rattle.bk_check.specs.Obligations.{may_branch}
 use Rattle.bk_order.specs.Fits.{Leads}
 use Rattle.bk_order.proofs.Leading.{leads-path}
@@ -51,36 +51,36 @@ use Rattle.bk_flows.proofs.Small.{below-eight, is_among, among-each}
 
 -- ONE VALUE
 
-is-bit : (x : ℕ) → (x == 1) ≡ true → x ≡ 1
-is-bit x e = grind (arith, nat_tests)
+is-bit : (n : ℕ) → (n == 1) ≡ true → n ≡ 1
+is-bit n e = grind (arith, nat_tests)
 
 -- a bit is 0 or 1
-no-bit : (x : ℕ) → (x % 2 == 1) ≡ false → x % 2 ≡ 0
-no-bit x e = grind (arith, nat_tests)
+no-bit : (n : ℕ) → (n % 2 == 1) ≡ false → n % 2 ≡ 0
+no-bit n e = grind (arith, nat_tests)
 
 -- a set of one value, cut by a set that has the value
-one-of : (v b : ℕ) → bit_at b v ≡ 1 → bit_and (only v) b ≡ only v
-one-of v b e = and_comm (2 ^ v) b ∙ and_pow b v ∙ subst (λ (c : ℕ). c * 2 ^ v ≡ 2 ^ v) (sym e) (omega arith)
+one-of : (w b : ℕ) → bit_at b w ≡ 1 → bit_and (only w) b ≡ only w
+one-of w b e = and_comm (2 ^ w) b ∙ and_pow b w ∙ subst (λ (c : ℕ). c * 2 ^ w ≡ 2 ^ w) (sym e) (omega arith)
 
 -- a value that the set has is kept
-keeps : (v b : ℕ) → has_value b v ≡ true → bit_and (only v) b ≡ only v
-keeps v b e = one-of v b (is-bit (b / 2 ^ v % 2) e)
+keeps : (w b : ℕ) → has_value b w ≡ true → bit_and (only w) b ≡ only w
+keeps w b e = one-of w b (is-bit (b / 2 ^ w % 2) e)
 
 -- and one that a set below 256 hasn't is kept by the values that the set hasn't
-others-bit : (v : ℕ) → v < 8 → (b : ℕ) → b < 256 → b / 2 ^ v % 2 ≡ 0 → (255 - b) / 2 ^ v % 2 ≡ 1
+others-bit : (w : ℕ) → w < 8 → (b : ℕ) → b < 256 → b / 2 ^ w % 2 ≡ 0 → (255 - b) / 2 ^ w % 2 ≡ 1
 others-bit =
-    below-eight (λ v. (b : ℕ) → b < 256 → b / 2 ^ v % 2 ≡ 0 → (255 - b) / 2 ^ v % 2 ≡ 1)
+    below-eight (λ w. (b : ℕ) → b < 256 → b / 2 ^ w % 2 ≡ 0 → (255 - b) / 2 ^ w % 2 ≡ 1)
     (λ b l e. omega (arith, l, e)) (λ b l e. omega (arith, l, e)) (λ b l e. omega (arith, l, e)) (λ b l e. omega (arith, l, e))
     (λ b l e. omega (arith, l, e)) (λ b l e. omega (arith, l, e)) (λ b l e. omega (arith, l, e)) (λ b l e. omega (arith, l, e))
 
-loses : (v b : ℕ) → v < 8 → b < 256 → has_value b v ≡ false → bit_and (only v) (255 - b) ≡ only v
-loses v b l k e = one-of v (255 - b) (others-bit v l b k (no-bit (b / 2 ^ v) e))
+loses : (w b : ℕ) → w < 8 → b < 256 → has_value b w ≡ false → bit_and (only w) (255 - b) ≡ only w
+loses w b l k e = one-of w (255 - b) (others-bit w l b k (no-bit (b / 2 ^ w) e))
 
 -- THE VALUES ARE SMALL
 
-if-small : (b : Bool) (x y : ℕ) → x < 8 → y < 8 → (if b then x else y) < 8
-if-small true x y p q = p
-if-small false x y p q = q
+if-small : (b : Bool) (n y : ℕ) → n < 8 → y < 8 → (if b then n else y) < 8
+if-small true n y p q = p
+if-small false n y p q = q
 
 number-small : (b : Bool) → number_of b < 8
 number-small b = if-small b 1 0 (omega arith) (omega arith)
@@ -122,7 +122,7 @@ fields = 2 ∷ 3 ∷ 4 ∷ 6 ∷ 7 ∷ 8 ∷ 9 ∷ 10 ∷ 15 ∷ 16 ∷ 17 ∷ 1
 -- `bk` in range tests one of them
 pub tests-of : (a b to : ℕ) → IsInRange (Bk a b to) → is_among a fields ≡ true
 tests-of a b to h =
-    let p = AdmitsAll-from_none (record { a = tested; b = value_set a; c = Zero; imm = target }) (fields_of (Bk a b to)) h.row in
+    let p = AdmitsAll-from_none (record { a = tested; b = value_set a; c = Zero; imm = target }) (fields_of (Bk a b to)) h.admitted in
     sym (agree_below_at (admits tested) (λ c. is_among c fields) 32 a refl (ltb-true a 32 (and_parts _ _ p.a).0)) ∙ p.a
 
 -- THE EXACT MASK
@@ -131,15 +131,15 @@ tests-of a b to h =
 own-kept : (y : Coh) → is_writable y ≡ false → bit_and (only (own_number y)) OWN_I_S_F_O ≡ only (own_number y)
 own-kept y e = grind arith
 
-module _ (k : Shape) (n : State) (told : Told) (tied : Tied k n told) where
+module _ (k : Shape) (later : State) (told : Told) (tied : Tied k later told) where
   abbrev s : Sets
-  s = exact k n.engine told
+  s = exact k later.engine told
 
   abbrev e : Core
-  e = n.engine.core
+  e = later.engine.core
 
   -- what a request of its kind finds as own
-  module _ (v : Staged k n told false) where
+  module _ (v : Staged k later told false) where
     abbrev h : Held
     h = v.serving.held
 
@@ -147,14 +147,15 @@ module _ (k : Shape) (n : State) (told : Told) (tied : Tied k n told) where
     x = v.serving.transaction
 
     abbrev sum : Summary
-    sum = summary_for k n.engine.directory h
+    sum = summary_for k later.engine.directory h
 
-    open_readings : OpenReadings k (group_of k h.addr) x (told_world k n told)
-    open_readings = (readings k (told_world k n told) tied.invariant).while_open (group_of k h.addr) x v.serving.is_told v.is_granted
+    open_readings : OpenReadings k (group_of k h.addr) x (told_world k later told)
+    open_readings = (readings k (told_world k later told) tied.invariant).while_open (group_of k h.addr) x v.serving.is_told v.is_granted
 
     own-of : (c : ℕ) → bit_and (only (own_number sum.own)) c ≡ only (own_number sum.own) → bit_and s.own c ≡ s.own
     own-of c q =
-        subst (λ (o : Option Held). bit_and (only (held_value k n.engine.directory o 6)) c ≡ only (held_value k n.engine.directory o 6))
+        subst (λ (o : Option Held). bit_and (only (held_value k later.engine.directory o 6)) c
+        ≡ only (held_value k later.engine.directory o 6))
         (sym v.serving.is_held) q
 
     kind-is : (c : ℕ) → (only (kind_value e.held) == only c) ≡ true → kind_number h.kind ≡ c
@@ -164,7 +165,8 @@ module _ (k : Shape) (n : State) (told : Told) (tied : Tied k n told) where
     own-rd q =
         own-of OWN_I
         (subst (λ (y : Coh). bit_and (only (own_number y)) OWN_I ≡ only (own_number y))
-        (sym (open_readings.rd (tag_at k h.addr) h.way (of-kind k n told v.serving kinds.Rd (rd h.kind (kind-is 0 q)))) ∙ own-read k n told v.serving) refl)
+        (sym (open_readings.rd (tag_at k h.addr) h.way (of-kind k later told v.serving kinds.Rd (rd h.kind (kind-is 0 q))))
+        ∙ own-read k later told v.serving) refl)
       where
         rd : (r : RequestKind) → kind_number r ≡ 0 → r ≡ kinds.Rd
         rd r e = grind arith
@@ -172,8 +174,9 @@ module _ (k : Shape) (n : State) (told : Told) (tied : Tied k n told) where
     own-wr : (s.kind == KIND_WR) ≡ true → bit_and s.own OWN_I_S_F_O ≡ s.own
     own-wr q =
         own-of OWN_I_S_F_O
-        (subst (λ (y : Coh). bit_and (only (own_number y)) OWN_I_S_F_O ≡ only (own_number y)) (own-read k n told v.serving)
-        (own-kept _ (weaker _ (open_readings.wr (tag_at k h.addr) h.way (of-kind k n told v.serving kinds.Wr (wr h.kind (kind-is 1 q)))))))
+        (subst (λ (y : Coh). bit_and (only (own_number y)) OWN_I_S_F_O ≡ only (own_number y)) (own-read k later told v.serving)
+        (own-kept _ (weaker _
+        (open_readings.wr (tag_at k h.addr) h.way (of-kind k later told v.serving kinds.Wr (wr h.kind (kind-is 1 q)))))))
       where
         wr : (r : RequestKind) → kind_number r ≡ 1 → r ≡ kinds.Wr
         wr r e = grind arith
@@ -195,44 +198,48 @@ module _ (k : Shape) (n : State) (told : Told) (tied : Tied k n told) where
         where
           by : (r : Bool) → (s.kind == KIND_RD) ≡ r → (u : Bool) → (s.kind == KIND_WR) ≡ u
               → (if r then bit_and s.own OWN_I else if u then bit_and s.own OWN_I_S_F_O else s.own) ≡ s.own
-          by true j u l = own-rd (serves-held k n told tied i) j
-          by false j true l = own-wr (serves-held k n told tied i) l
+          by true j u l = own-rd (serves-held k later told tied i) j
+          by false j true l = own-wr (serves-held k later told tied i) l
           by false j false l = refl
 
   -- with a request at the head gp is a set of one value too
-  gp-is : (s.head == HEAD_REQUEST) ≡ true → s.gp ≡ only (gp_value k n.engine.directory e.head)
-  gp-is q = ap (λ (v : ℕ). if v == 1 then only (gp_value k n.engine.directory e.head) else GP_FREE) (values.only-is 1 (head_value e.head) q)
+  gp-is : (s.head == HEAD_REQUEST) ≡ true → s.gp ≡ only (gp_value k later.engine.directory e.head)
+  gp-is q = ap (λ (w : ℕ). if w == 1 then only (gp_value k later.engine.directory e.head)
+      else GP_FREE) (values.only-is 1 (head_value e.head) q)
 
   -- where the field keeps its one value, so does the mask
-  keeps-mask : (a : ℕ) → is_among a fields ≡ true → (c : ℕ) → bit_and (only (field_value k n.engine a)) c ≡ only (field_value k n.engine a)
+  keeps-mask : (a : ℕ) → is_among a fields ≡ true → (c : ℕ) → bit_and (only (field_value k later.engine a)) c
+      ≡ only (field_value k later.engine a)
       → may_branch a s ≡ true → keep_values s a c ≡ s
   keeps-mask =
-      among-each (λ a. (c : ℕ) → bit_and (only (field_value k n.engine a)) c ≡ only (field_value k n.engine a) → may_branch a s ≡ true
+      among-each (λ a. (c : ℕ) → bit_and (only (field_value k later.engine a)) c ≡ only (field_value k later.engine a)
+      → may_branch a s ≡ true
       → keep_values s a c ≡ s) fields (
-        λ c q o. ap (λ (v : ℕ). record s { head = v }) q,
+        λ c q o. ap (λ (w : ℕ). record s { head = w }) q,
         (
-          λ c q o. ap (λ (v : ℕ). record s { gp = v }) (subst (λ (v : ℕ). bit_and v c ≡ v) (sym (gp-is (and3 (s.head == HEAD_REQUEST) true true o).0)) q),
+          λ c q o. ap (λ (w : ℕ). record s { gp = w })
+              (subst (λ (w : ℕ). bit_and w c ≡ w) (sym (gp-is (and3 (s.head == HEAD_REQUEST) true true o).0)) q),
           (
             λ c q o. (λ i. record s { kind = q i; own = if s.stage == STAGE_HELD then own_of_kind (record s { kind = q i }) else s.own })
-                ∙ ap (λ (v : ℕ). record s { own = v }) cut-same,
+                ∙ ap (λ (w : ℕ). record s { own = w }) cut-same,
             (
-              λ c q o. ap (λ (v : ℕ). record s { own = v }) q,
+              λ c q o. ap (λ (w : ℕ). record s { own = w }) q,
               (
-                λ c q o. ap (λ (v : ℕ). record s { owner = v }) q,
+                λ c q o. ap (λ (w : ℕ). record s { owner = w }) q,
                 (
-                  λ c q o. ap (λ (v : ℕ). record s { others = v }) q,
+                  λ c q o. ap (λ (w : ℕ). record s { others = w }) q,
                   (
-                    λ c q o. ap (λ (v : ℕ). record s { victim = v }) q,
+                    λ c q o. ap (λ (w : ℕ). record s { victim = w }) q,
                     (
-                      λ c q o. ap (λ (v : ℕ). record s { acks = v }) q,
+                      λ c q o. ap (λ (w : ℕ). record s { acks = w }) q,
                       (
-                        λ c q o. ap (λ (v : ℕ). record s { f0 = v }) q,
+                        λ c q o. ap (λ (w : ℕ). record s { f0 = w }) q,
                         (
-                          λ c q o. ap (λ (v : ℕ). record s { f1 = v }) q,
+                          λ c q o. ap (λ (w : ℕ). record s { f1 = w }) q,
                           (
-                            λ c q o. ap (λ (v : ℕ). record s { f2 = v }) q,
+                            λ c q o. ap (λ (w : ℕ). record s { f2 = w }) q,
                             (
-                              λ c q o. ap (λ (v : ℕ). record s { f3 = v }) q,
+                              λ c q o. ap (λ (w : ℕ). record s { f3 = w }) q,
                               tt,
                             ),
                           ),
@@ -247,28 +254,30 @@ module _ (k : Shape) (n : State) (told : Told) (tied : Tied k n told) where
         ),
       )
 
-  value-small : (a : ℕ) → field_value k n.engine a < 8
+  value-small : (a : ℕ) → field_value k later.engine a < 8
   value-small a =
       if-small (a == 2) _ _ (head-small e.head)
-      (if-small (a == 3) _ _ (gp-small k n.engine.directory e.head)
+      (if-small (a == 3) _ _ (gp-small k later.engine.directory e.head)
       (if-small (a == 4) _ _ (kind-small e.held)
-      (if-small (a == 10) _ _ (number-small _) (if-small (nat_lt 14 a) _ _ (number-small _) (held-small k n.engine.directory e.held a)))))
+      (if-small (a == 10) _ _ (number-small _)
+      (if-small (nat_lt a 15) _ _ (held-small k later.engine.directory e.held a) (number-small _)))))
 
   pub leads-bk : (choice : Choice) (message : Option Row) (a b to : ℕ) → IsInRange (Bk a b to) → may_branch a s ≡ true
-      → Goal k n told choice message (Bk a b to)
-  leads-bk choice message a b to r o filled = go (has_value b (field_value k n.engine a)) refl
+      → Goal k later told choice message (Bk a b to)
+  leads-bk choice message a b to r o filled = go (has_value b (field_value k later.engine a)) refl
     where
-      quiet : after_mask k n told choice message (Bk a b to) ≡ s
-      quiet = idle-mask k n told choice message (Bk a b to) refl (λ h y. refl) refl (λ h. refl) refl
+      quiet : after_mask k later told choice message (Bk a b to) ≡ s
+      quiet = idle-mask k later told choice message (Bk a b to) refl (λ h y. refl) refl (λ h. refl) refl
 
-      edge : (c : ℕ) → bit_and (only (field_value k n.engine a)) c ≡ only (field_value k n.engine a)
-          → Leads (existing (keep_values s a c)) (after_mask k n told choice message (Bk a b to))
+      edge : (c : ℕ) → bit_and (only (field_value k later.engine a)) c ≡ only (field_value k later.engine a)
+          → Leads (existing (keep_values s a c)) (after_mask k later told choice message (Bk a b to))
       edge c q = leads-path _ _ (quiet ∙ sym (keeps-mask a (tests-of a b to r) c q o)) filled
 
       small : b < 256
       small = let l = (operands (Bk a b to) r).1 in let m = limit-small a in omega (arith, l, m)
 
-      go : (g : Bool) → has_value b (field_value k n.engine a) ≡ g
-          → Leads (if g then existing (keep_values s a b) else existing (lose_values s a b)) (after_mask k n told choice message (Bk a b to))
-      go true i = edge b (keeps (field_value k n.engine a) b i)
-      go false i = edge (255 - b) (loses (field_value k n.engine a) b (value-small a) small i)
+      go : (test : Bool) → has_value b (field_value k later.engine a) ≡ test
+          → Leads (if test then existing (keep_values s a b) else existing (lose_values s a b))
+          (after_mask k later told choice message (Bk a b to))
+      go true i = edge b (keeps (field_value k later.engine a) b i)
+      go false i = edge (255 - b) (loses (field_value k later.engine a) b (value-small a) small i)

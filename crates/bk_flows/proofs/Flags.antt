@@ -16,7 +16,7 @@ use Rattle.bk_msg.specs.declared.row.Row.{Row}
 use Rattle.bk_engine.specs.declared.parts.Choice.{Choice}
 use Rattle.bk_engine.specs.declared.parts.Core.{Core}
 use Rattle.bk_engine.specs.declared.parts.Held.{Held}
-use Rattle.bk_engine.specs.Changes.{core_after, directory_after, directory_held, directory_for}
+use Rattle.bk_engine.specs.Changes.{core_after, directory_after, directory_for_held, directory_for}
 use Rattle.bk_engine.specs.Reads.{flag, number_of}
 use Rattle.bk_system.specs.State.{State}
 use Rattle.bk_machine.specs.Actions.{Idles}
@@ -33,7 +33,7 @@ flag_set b = only (number_of b)
 
 -- the mask with these flags
 abbrev with_flags : Sets → List Bool → Sets
-with_flags s fs = record s {
+with_flags sets fs = record sets {
   f0 = flag_set (slice_index_or fs 0 false);
   f1 = flag_set (slice_index_or fs 1 false);
   f2 = flag_set (slice_index_or fs 2 false);
@@ -41,30 +41,37 @@ with_flags s fs = record s {
 }
 
 -- a flag of the engine is written, and so is the mask's
-set-flag : (s : Sets) (fs : List Bool) (a : ℕ) (b : Bool) → length fs ≡ 4 → a < 4
-    → with_flags s (slice_set fs a b) ≡ with_flag (with_flags s fs) a (flag_set b)
-set-flag s fs a b l k =
-    λ i. record s { f0 = at 0 (omega arith) i; f1 = at 1 (omega arith) i; f2 = at 2 (omega arith) i; f3 = (at 3 (omega arith) ∙ last _ _) i }
+set-flag : (sets : Sets) (fs : List Bool) (a : ℕ) (b : Bool) → length fs ≡ 4 → a < 4
+    → with_flags sets (slice_set fs a b) ≡ with_flag (with_flags sets fs) a (flag_set b)
+set-flag sets fs a b l k =
+    λ i. record sets {
+      f0 = at 0 (omega arith) i;
+      f1 = at 1 (omega arith) i;
+      f2 = at 2 (omega arith) i;
+      f3 = (at 3 (omega arith) ∙ last _ _) i;
+    }
   where
-    at : (j : ℕ) → j < 4 → flag_set (slice_index_or (slice_set fs a b) j false) ≡ (if a == j then flag_set b else flag_set (slice_index_or fs j false))
+    at : (j : ℕ) → j < 4 → flag_set (slice_index_or (slice_set fs a b) j false)
+        ≡ (if a == j then flag_set b else flag_set (slice_index_or fs j false))
     at j m = go (a == j) refl
       where
-        go : (c : Bool) → (a == j) ≡ c → flag_set (slice_index_or (slice_set fs a b) j false) ≡ (if c then flag_set b else flag_set (slice_index_or fs j false))
+        go : (c : Bool) → (a == j) ≡ c → flag_set (slice_index_or (slice_set fs a b) j false)
+            ≡ (if c then flag_set b else flag_set (slice_index_or fs j false))
         go true i =
             ap (λ (c : ℕ). flag_set (slice_index_or (slice_set fs c b) j false)) (eqb-true a j i)
             ∙ ap flag_set (get_or-set_same fs j b false (omega (arith, l)))
         go false i = ap flag_set (get_or-set_other fs a j b false (λ z. eqb-false a j i (sym z)))
 
-    last : (x y : ℕ) → (if a == 3 then x else y) ≡ (if nat_lt a 3 then y else x)
-    last x y = grind (arith, nat_tests)
+    last : (n y : ℕ) → (if a == 3 then n else y) ≡ (if nat_lt a 3 then y else n)
+    last n y = grind (arith, nat_tests)
 
 -- the flag that is read
-read-flag : (s : Sets) (fs : List Bool) (a : ℕ) → a < 4 → flow.flag (with_flags s fs) a ≡ flag_set (slice_index_or fs a false)
-read-flag s fs zero k = refl
-read-flag s fs (suc zero) k = refl
-read-flag s fs (suc (suc zero)) k = refl
-read-flag s fs (suc (suc (suc zero))) k = refl
-read-flag s fs (suc (suc (suc (suc a)))) k = absurd (omega (arith, k))
+read-flag : (sets : Sets) (fs : List Bool) (a : ℕ) → a < 4 → flow.flag (with_flags sets fs) a ≡ flag_set (slice_index_or fs a false)
+read-flag sets fs zero k = refl
+read-flag sets fs (suc zero) k = refl
+read-flag sets fs (suc (suc zero)) k = refl
+read-flag sets fs (suc (suc (suc zero))) k = refl
+read-flag sets fs (suc (suc (suc (suc a)))) k = absurd (omega (arith, k))
 
 -- of sets of one value the results are sets of one value
 not-exact : (b : Bool) → flag_set (not b) ≡ set_not (flag_set b)
@@ -83,52 +90,59 @@ or-exact true false = refl
 or-exact false true = refl
 or-exact false false = refl
 
-module _ (k : Shape) (n : State) (told : Told) (choice : Choice) (message : Option Row) (flags : length n.engine.core.flags ≡ 4) where
+module _ (k : Shape) (later : State) (told : Told) (choice : Choice) (message : Option Row)
+    (flags : length later.engine.core.flags ≡ 4) where
   abbrev e : Core
-  e = n.engine.core
+  e = later.engine.core
 
   abbrev s : Sets
-  s = m k n told choice message
+  s = m k later told choice message
 
   abbrev goal : Form → Type 0
-  goal = Goal k n told choice message
+  goal = Goal k later told choice message
 
   -- the mask after an instruction that writes one flag
-  set-mask : (f : Form) (a : ℕ) (b : Bool) → action_at k e (told_world k n told) f ≡ served_action k e e.held told.transaction (told_world k n told) f
-      → ((h : Held) (y : Transaction) → action_of k e h y (told_world k n told) f ≡ Some Idles)
-      → directory_after k n.engine f ≡ directory_held k n.engine.directory e.held f
-      → ((h : Held) → directory_for k n.engine.directory h f ≡ n.engine.directory)
-      → (p : ℕ) → core_after k n.engine f choice message ≡ record e { flags = slice_set e.flags a b; place = p }
-      → deferred_after k e f told.deferred ≡ told.deferred → a < 4 → after_mask k n told choice message f ≡ with_flag s a (flag_set b)
+  set-mask : (f : Form) (a : ℕ) (b : Bool) → action_at k e (told_world k later told) f
+      ≡ served_action k e e.held told.transaction (told_world k later told) f
+      → ((h : Held) (x : Transaction) → action_of k e h x (told_world k later told) f ≡ Some Idles)
+      → directory_after k later.engine f ≡ directory_for_held k later.engine.directory e.held f
+      → ((h : Held) → directory_for k later.engine.directory h f ≡ later.engine.directory)
+      → (p : ℕ) → core_after k later.engine f choice message ≡ record e { flags = slice_set e.flags a b; place = p }
+      → deferred_after k e f told.deferred ≡ told.deferred → a < 4
+      → after_mask k later told choice message f ≡ with_flag s a (flag_set b)
   set-mask f a b i j d q p c u l =
-      idle-mask k n told choice message f i j d q (ap (λ (x : Core). x.held) c) ∙ (λ z. beside k n told choice message (c z) (u z))
+      idle-mask k later told choice message f i j d q (ap (λ (core : Core). core.held) c)
+      ∙ (λ z. beside k later told choice message (c z) (u z))
       ∙ set-flag s e.flags a b flags l
 
   pub leads-sf : (a : ℕ) → a < 4 → goal (Sf a)
-  leads-sf a l = leads-path _ _ (set-mask (Sf a) a true refl (λ h y. refl) refl (λ h. refl) _ refl refl l)
+  leads-sf a l = leads-path _ _ (set-mask (Sf a) a true refl (λ h x. refl) refl (λ h. refl) _ refl refl l)
 
   pub leads-cf : (a : ℕ) → a < 4 → goal (Cf a)
-  leads-cf a l = leads-path _ _ (set-mask (Cf a) a false refl (λ h y. refl) refl (λ h. refl) _ refl refl l)
+  leads-cf a l = leads-path _ _ (set-mask (Cf a) a false refl (λ h x. refl) refl (λ h. refl) _ refl refl l)
 
   pub leads-nf : (a : ℕ) → a < 4 → goal (Nf a)
   leads-nf a l =
       leads-path _ _
-      (set-mask (Nf a) a (not (flag e a)) refl (λ h y. refl) refl (λ h. refl) _ refl refl l
+      (set-mask (Nf a) a (not (flag e a)) refl (λ h x. refl) refl (λ h. refl) _ refl refl l
       ∙ ap (with_flag s a) (not-exact (flag e a) ∙ ap set_not (sym (read-flag s e.flags a l))))
 
   pub leads-movf : (a b : ℕ) → a < 4 → b < 4 → goal (Movf a b)
   leads-movf a b l j =
       leads-path _ _
-      (set-mask (Movf a b) a (flag e b) refl (λ h y. refl) refl (λ h. refl) _ refl refl l ∙ ap (with_flag s a) (sym (read-flag s e.flags b j)))
+      (set-mask (Movf a b) a (flag e b) refl (λ h x. refl) refl (λ h. refl) _ refl refl l
+      ∙ ap (with_flag s a) (sym (read-flag s e.flags b j)))
 
   pub leads-andf : (a b : ℕ) → a < 4 → b < 4 → goal (Andf a b)
   leads-andf a b l j =
       leads-path _ _
-      (set-mask (Andf a b) a (flag e a && flag e b) refl (λ h y. refl) refl (λ h. refl) _ refl refl l
-      ∙ ap (with_flag s a) (and-exact (flag e a) (flag e b) ∙ (λ i. set_and (sym (read-flag s e.flags a l) i) (sym (read-flag s e.flags b j) i))))
+      (set-mask (Andf a b) a (flag e a && flag e b) refl (λ h x. refl) refl (λ h. refl) _ refl refl l
+      ∙ ap (with_flag s a) (and-exact (flag e a) (flag e b)
+      ∙ (λ i. set_and (sym (read-flag s e.flags a l) i) (sym (read-flag s e.flags b j) i))))
 
   pub leads-orf : (a b : ℕ) → a < 4 → b < 4 → goal (Orf a b)
   leads-orf a b l j =
       leads-path _ _
-      (set-mask (Orf a b) a (flag e a || flag e b) refl (λ h y. refl) refl (λ h. refl) _ refl refl l
-      ∙ ap (with_flag s a) (or-exact (flag e a) (flag e b) ∙ (λ i. set_or (sym (read-flag s e.flags a l) i) (sym (read-flag s e.flags b j) i))))
+      (set-mask (Orf a b) a (flag e a || flag e b) refl (λ h x. refl) refl (λ h. refl) _ refl refl l
+      ∙ ap (with_flag s a) (or-exact (flag e a) (flag e b)
+      ∙ (λ i. set_or (sym (read-flag s e.flags a l) i) (sym (read-flag s e.flags b j) i))))

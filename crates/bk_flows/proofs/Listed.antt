@@ -13,7 +13,7 @@ use Rattle.bk_dir.specs.declared.entry.Entry.{Entry as DirectoryEntry}
 use Rattle.bk_dir.specs.Contents.{Contents, with_entry}
 use Rattle.bk_engine.specs.declared.parts.Core.{Core}
 use Rattle.bk_engine.specs.Heads.{is_placed}
-use Rattle.bk_engine.specs.Reads.{asked_of, summary_for, number_of, own_number, owner_number, is_heavy}
+use Rattle.bk_engine.specs.Reads.{query_of, summary_for, number_of, own_number, owner_number, is_heavy}
 use Rattle.bk_system.specs.State.{State}
 use Rattle.bk_machine.specs.Tables.{put2}
 use Rattle.bk_machine.specs.Directory as machine
@@ -38,7 +38,7 @@ state-only states.F = refl
 state-only states.M = refl
 state-only states.O = refl
 
-module _ (k : Shape) (n : State) (told : Told) (v : Serving k n told) where
+module _ (k : Shape) (later : State) (told : Told) (v : Serving k later told) where
   open v use {held as h}
 
   abbrev s : ℕ
@@ -51,10 +51,10 @@ module _ (k : Shape) (n : State) (told : Told) (v : Serving k n told) where
   t = tag_at k h.addr
 
   abbrev list : Contents
-  list = n.engine.directory
+  list = later.engine.directory
 
   abbrev mask : Core → Contents → Transaction → Sets
-  mask = mask_in k n told v
+  mask = mask_in k later told v
 
   -- what the machine reads for the request in these entries
   abbrev pub own_in : (ℕ → ℕ → Entry) → Coh
@@ -70,11 +70,11 @@ module _ (k : Shape) (n : State) (told : Told) (v : Serving k n told) where
   victim_in f = machine.victim (is_placed h.kind) f r t h.way
 
   -- the engine's summary is what the machine reads
-  alike : (q : Contents) → ReadsAlike k q (asked_of k h) (summary_for k q h)
-  alike q = reads_alike k q (asked_of k h)
+  alike : (q : Contents) → ReadsAlike k q (query_of k h) (summary_for k q h)
+  alike q = reads_alike k q (query_of k h)
 
   others-number : (q : ℕ) (b : Bool) → (q == 0) ≡ b → only (number_of (nat_lt 0 q)) ≡ only (number_of (not b))
-  others-number q b e = ap (λ (c : Bool). only (number_of c)) (lem q b e)
+  others-number q b e = ap (λ (test : Bool). only (number_of test)) (lem q b e)
     where
       lem : (q : ℕ) (b : Bool) → (q == 0) ≡ b → nat_lt 0 q ≡ not b
       lem q b e = grind (arith, nat_tests)
@@ -88,16 +88,18 @@ module _ (k : Shape) (n : State) (told : Told) (v : Serving k n told) where
   others-seen q f i = others-number (summary_for k q h).others (none_in f) ((alike q).no_others ∙ ap none_in i)
 
   -- Other entries of the group are in the directory, and no other pending bits: own, owner, others and victim are what is read of them.
-  pub rewritten : (c : Core) (q : Contents) (y : Transaction) (f : ℕ → ℕ → Entry) → seen q s ≡ f → q.pending ≡ list.pending
-      → (own owner victim : Coh) (no_others : Bool) → own_in f ≡ own → owner_in f ≡ owner → none_in f ≡ no_others → victim_in f ≡ victim
-      → mask c q y ≡ record (mask c list y) {
+  pub rewritten : (core : Core) (q : Contents) (x : Transaction) (f : ℕ → ℕ → Entry) → seen q s ≡ f
+      → q.pending ≡ list.pending
+      → (own owner victim : Coh) (no_others : Bool) → own_in f ≡ own → owner_in f ≡ owner → none_in f ≡ no_others
+      → victim_in f ≡ victim
+      → mask core q x ≡ record (mask core list x) {
         own = only (own_number own);
         owner = only (owner_number owner);
         others = only (number_of (not no_others));
         victim = only (number_of (is_heavy victim));
       }
-  rewritten c q y f i p own owner victim no_others a b o g = λ z. record (mask c list y) {
-    gp = gp_of (record { entries = q.entries; pending = p z }) k c.head;
+  rewritten core q x f i p own owner victim no_others a b o g = λ z. record (mask core list x) {
+    gp = gp_of (record { entries = q.entries; pending = p z }) k core.head;
     own = only (own_number ((own-seen q f i ∙ a) z));
     owner = only (owner_number (((alike q).owner_state ∙ ap owner_in i ∙ b) z));
     others = (others-seen q f i ∙ ap (λ (b : Bool). only (number_of (not b))) o) z;
@@ -106,4 +108,5 @@ module _ (k : Shape) (n : State) (told : Told) (v : Serving k n told) where
 
   -- one of them is written
   pub entry-in : (c u : ℕ) (g : DirectoryEntry) → seen (with_entry list c s u g) s ≡ put2 (seen list s) c u (listed_of g)
-  entry-in c u g = ap (λ (f : ℕ → ℕ → ℕ → Entry). f s) (entry-seen list c s u g) ∙ put-here (seen list) s (put2 (seen list s) c u (listed_of g))
+  entry-in c u g = ap (λ (f : ℕ → ℕ → ℕ → Entry). f s) (entry-seen list c s u g)
+      ∙ put-here (seen list) s (put2 (seen list s) c u (listed_of g))

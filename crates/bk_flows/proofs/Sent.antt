@@ -10,7 +10,7 @@ use Rattle.bk_isa.specs.declared.form.Form.TheVariants as forms
 use Rattle.bk_know.specs.declared.sets.Sets.{Sets}
 use Rattle.bk_know.specs.Sets.{only}
 use Rattle.bk_flow.specs.Flow.{idle_with}
-use Rattle.bk_flow.specs.Values.{GP_FREE, MEM_ASKED, MEM_WRITTEN}
+use Rattle.bk_know.specs.declared.values.TheConstants.{GP_FREE, MEM_ASKED, MEM_WRITTEN}
 use Rattle.bk_order.specs.Fits.{Leads}
 use Rattle.bk_order.proofs.Filled.{Filled}
 use Rattle.bk_order.proofs.Leading.{leads-path}
@@ -21,13 +21,13 @@ use Rattle.bk_engine.specs.declared.parts.Choice.{Choice}
 use Rattle.bk_engine.specs.declared.parts.Core.{Core}
 use Rattle.bk_engine.specs.declared.parts.Head.{Head}
 use Rattle.bk_engine.specs.declared.parts.Held.{Held}
-use Rattle.bk_engine.specs.declared.parts.Kept.{Kept as KeptBlock}
-use Rattle.bk_engine.specs.Changes.{core_after, directory_after, directory_held, directory_for}
+use Rattle.bk_engine.specs.declared.parts.DirtyBlock.{DirtyBlock}
+use Rattle.bk_engine.specs.Changes.{core_after, directory_after, directory_for_held, directory_for}
 use Rattle.bk_engine.specs.Heads.{head_value}
 use Rattle.bk_engine.specs.Reads.{number_of}
 use Rattle.bk_system.specs.State.{State}
-use Rattle.bk_machine.specs.Actions.{Action, action_after, GrantsByBlock, GrantsByWake, GrantsByTransfer, AnswersWord, AnswersStore, AnswersEvict, ReadsMemory, WritesWord, WritesBack, requester_owes, owner_owes}
-use Rattle.bk_machine.specs.Messages.{Block}
+use Rattle.bk_machine.specs.Actions.{Action, action_after, GrantsByBlock, GrantsByWake, GrantsByTransfer, AnswersWord, AnswersStore, AnswersEvict, ReadsMemory, WritesWord, WritesBack, debt_of_requester, debt_of_owner}
+use Rattle.bk_machine.specs.Messages.{MemoryBlock}
 use Rattle.bk_machine.specs.Products.{words_of}
 use Rattle.bk_machine.specs.Transactions.{Idle, ReadAsked, Transaction}
 use Rattle.bk_machine.specs.World.{World}
@@ -46,15 +46,17 @@ use Rattle.bk_flows.specs.Flows.{edge_of}
 use Rattle.bk_flows.proofs.Masks.{after_mask, Goal}
 
 -- the mask of the request that is served, by core, directory and transaction
-abbrev pub mask_in : (k : Shape) (n : State) (told : Told) → Serving k n told → Core → Contents → Transaction → Sets
-mask_in k n told v c d y = exact_of k (record { core = c; directory = d }) (Some v.held) (Some (group_of k v.held.addr, y)) told.deferred
+abbrev pub mask_in : (k : Shape) (s : State) (told : Told) → Serving k s told → Core → Contents → Transaction → Sets
+mask_in k s told v core d x =
+    exact_of k (record { core = core; directory = d }) (Some v.held) (Some (group_of k v.held.addr, x)) told.deferred
 
-module _ (k : Shape) (n : State) (told : Told) (tied : Tied k n told) (v : Serving k n told) (choice : Choice) (message : Option Row) where
+module _ (k : Shape) (later : State) (told : Told) (tied : Tied k later told) (v : Serving k later told) (choice : Choice)
+    (message : Option Row) where
   abbrev e : Core
-  e = n.engine.core
+  e = later.engine.core
 
   abbrev w : World
-  w = told_world k n told
+  w = told_world k later told
 
   open v use {held as h, transaction as x}
 
@@ -62,45 +64,52 @@ module _ (k : Shape) (n : State) (told : Told) (tied : Tied k n told) (v : Servi
   s = group_of k h.addr
 
   abbrev pub m : Sets
-  m = mask k n told v
+  m = mask k later told v
 
   abbrev pub after_served : Form → Contents → Transaction → Sets
-  after_served f d y = mask_in k n told v (core_after k n.engine f choice message) d y
+  after_served f d x = mask_in k later told v (core_after k later.engine f choice message) d x
 
   abbrev pub goal : Form → Type 0
-  goal = Goal k n told choice message
+  goal = Goal k later told choice message
 
   -- an instruction of the table, by its action, and the directory and the transaction after it
-  pub served-to : (f : Form) (a : Action) (d : Contents) (y : Transaction) → action_at k e w f ≡ served_action k e e.held told.transaction w f
-      → action_of k e h x w f ≡ Some a → (action_after s a w).transaction ≡ Some (s, y)
-      → (core_after k n.engine f choice message).held ≡ e.held
-      → directory_after k n.engine f ≡ directory_held k n.engine.directory e.held f → directory_for k n.engine.directory h f ≡ d
+  pub served-to : (f : Form) (a : Action) (d : Contents) (other : Transaction)
+      → action_at k e w f ≡ served_action k e e.held told.transaction w f
+      → action_of k e h x w f ≡ Some a → (action_after s a w).transaction ≡ Some (s, other)
+      → (core_after k later.engine f choice message).held ≡ e.held
+      → directory_after k later.engine f ≡ directory_for_held k later.engine.directory e.held f
+      → directory_for k later.engine.directory h f ≡ d
       → deferred_after k e f told.deferred ≡ told.deferred
-      → (Filled (after_served f d y) → Leads (edge_of k n.engine f m) (after_served f d y)) → goal f
-  served-to f a d y i j q held dir for stays lead filled =
-      subst (λ (g : Sets). Leads (edge_of k n.engine f g) (after_mask k n told choice message f)) (sym (mask-of k n told v))
-      (subst (Leads (edge_of k n.engine f m)) (sym same) (lead (subst Filled same filled)))
+      → (Filled (after_served f d other) → Leads (edge_of k later.engine f m) (after_served f d other)) → goal f
+  served-to f a d other i j q held dir for stays lead filled =
+      subst (λ (sets : Sets). Leads (edge_of k later.engine f sets) (after_mask k later told choice message f))
+      (sym (mask-of k later told v))
+      (subst (Leads (edge_of k later.engine f m)) (sym same) (lead (subst Filled same filled)))
     where
-      directory : directory_after k n.engine f ≡ d
-      directory = dir ∙ ap (λ (o : Option Held). directory_held k n.engine.directory o f) v.is_held ∙ for
+      directory : directory_after k later.engine f ≡ d
+      directory = dir ∙ ap (λ (o : Option Held). directory_for_held k later.engine.directory o f) v.is_held ∙ for
 
-      transaction : transaction_after w (action_at k e w f) ≡ Some (s, y)
+      transaction : transaction_after w (action_at k e w f) ≡ Some (s, other)
       transaction =
-          ap (transaction_after w) (i ∙ (λ z. served_action k e (v.is_held z) (v.is_told z) w f) ∙ ap (option_map (λ b. (s, b))) j) ∙ q
+          ap (transaction_after w) (i ∙ (λ z. served_action k e (v.is_held z) (v.is_told z) w f)
+          ∙ ap (option_map (λ b. (s, b))) j) ∙ q
 
-      same : after_mask k n told choice message f ≡ after_served f d y
+      same : after_mask k later told choice message f ≡ after_served f d other
       same =
-          λ z. exact_of k (record { core = core_after k n.engine f choice message; directory = directory z }) ((held ∙ v.is_held) z) (transaction z)
+          λ z. exact_of k (record { core = core_after k later.engine f choice message; directory = directory z }) ((held ∙ v.is_held) z)
+          (transaction z)
           (stays z)
 
   -- one that writes no entry
-  sent-to : (f : Form) (a : Action) (y : Transaction) → action_at k e w f ≡ served_action k e e.held told.transaction w f
-      → action_of k e h x w f ≡ Some a → (action_after s a w).transaction ≡ Some (s, y)
-      → (core_after k n.engine f choice message).held ≡ e.held
-      → directory_after k n.engine f ≡ directory_held k n.engine.directory e.held f → directory_for k n.engine.directory h f ≡ n.engine.directory
+  sent-to : (f : Form) (a : Action) (other : Transaction) → action_at k e w f ≡ served_action k e e.held told.transaction w f
+      → action_of k e h x w f ≡ Some a → (action_after s a w).transaction ≡ Some (s, other)
+      → (core_after k later.engine f choice message).held ≡ e.held
+      → directory_after k later.engine f ≡ directory_for_held k later.engine.directory e.held f
+      → directory_for k later.engine.directory h f ≡ later.engine.directory
       → deferred_after k e f told.deferred ≡ told.deferred
-      → (Filled (after_served f n.engine.directory y) → Leads (edge_of k n.engine f m) (after_served f n.engine.directory y)) → goal f
-  sent-to f a y = served-to f a n.engine.directory y
+      → (Filled (after_served f later.engine.directory other)
+      → Leads (edge_of k later.engine f m) (after_served f later.engine.directory other)) → goal f
+  sent-to f a other = served-to f a later.engine.directory other
 
   -- MEMORY
 
@@ -112,16 +121,17 @@ module _ (k : Shape) (n : State) (told : Told) (tied : Tied k n told) (v : Servi
 
   pub leads-memww : goal forms.Memww
   leads-memww =
-      sent-to forms.Memww (WritesWord (tag_at k h.addr) (word_of h.addr) h.value x) (record x { written = true }) refl refl refl refl refl refl refl
+      sent-to forms.Memww (WritesWord (tag_at k h.addr) (word_of h.addr) h.value x) (record x { written = true }) refl refl refl refl
+      refl refl refl
       (leads-path _ _ refl)
 
   pub leads-memwb : Met forms.Memwb m → goal forms.Memwb
   leads-memwb o =
       let q = values.wb-dirty x.write_back o.o20 in
       let f = kept-found k s e.dirty x.write_back q.0 v.serves.kept q.1 in
-      let b : Block = record { tag = tag_at k f.block.addr; words = words_of f.block.words } in
+      let b : MemoryBlock = record { tag = tag_at k f.block.addr; words = words_of f.block.words } in
       sent-to forms.Memwb (WritesBack b x) (record x { write_back = Idle }) refl
-      (ap (λ (o : Option KeptBlock). kept_action k h o x) f.is
+      (ap (λ (o : Option DirtyBlock). kept_action k h o x) f.is
       ∙ ap (λ (same : Bool). if same then Some (WritesBack b x) else None) (eq-eqb (group_of k f.block.addr) s f.group))
       refl refl refl refl refl (leads-path _ _ refl)
 
@@ -131,7 +141,8 @@ module _ (k : Shape) (n : State) (told : Told) (tied : Tied k n told) (v : Servi
   leads-blk y o =
       let q = values.mem-got x.written x.reading (and4 _ _ _ _ o.o18).1 in
       let f = got-found e.got x.reading q.0 v.serves.got q.1 in
-      sent-to (forms.Blk y) (GrantsByBlock (words_of f.words) y x) (record x { granted = true; requester_debt = requester_owes x y }) refl
+      sent-to (forms.Blk y) (GrantsByBlock (words_of f.words) y x)
+      (record x { granted = true; requester_debt = debt_of_requester x y }) refl
       (ap (option_map (λ words. GrantsByBlock (words_of words) y x)) f.is) refl refl refl refl refl (leads-path _ _ refl)
 
   pub leads-wake : goal forms.Wake
@@ -140,17 +151,17 @@ module _ (k : Shape) (n : State) (told : Told) (tied : Tied k n told) (v : Servi
       (record x {
         granted = true;
         requester_debt = Some (record
-            { cache = x.cache; way = h.way; held = record { tag = tag_at k h.addr; state = states.M } });
+            { cache = x.cache; way = h.way; entry = record { tag = tag_at k h.addr; state = states.M } });
       })
       refl refl refl refl refl refl refl (leads-path _ _ refl)
 
   pub leads-tr : (y z : Coh) → Met (forms.Tr y z) m → goal (forms.Tr y z)
   leads-tr y z o =
-      let f = owner-there k n told v (and3 _ _ _ o.o19).0 in
+      let f = owner-there k later told v (and3 _ _ _ o.o19).0 in
       sent-to (forms.Tr y z) (GrantsByTransfer f.cache f.way y z x)
-      (record x { granted = true; requester_debt = requester_owes x z; owner_debt = owner_owes f.cache f.way x y }) refl
+      (record x { granted = true; requester_debt = debt_of_requester x z; owner_debt = debt_of_owner f.cache f.way x y }) refl
       (ap (option_map (λ (at : ℕ × ℕ). GrantsByTransfer at.0 at.1 y z x))
-      (owner-place k n told v f.cache f.way f.is_owner f.is_way)) refl refl refl refl refl
+      (owner-place k later told v f.cache f.way f.is_owner f.is_way)) refl refl refl refl refl
       (leads-path _ _ refl)
 
   pub leads-ucblk : Met forms.Ucblk m → goal forms.Ucblk
@@ -158,28 +169,31 @@ module _ (k : Shape) (n : State) (told : Told) (tied : Tied k n told) (v : Servi
       let q = values.mem-got x.written x.reading (and_parts _ _ o.o16).1 in
       let f = got-found e.got x.reading q.0 v.serves.got q.1 in
       sent-to forms.Ucblk (AnswersWord (tag_at k h.addr) (word_of h.addr) (words_of f.words) x) (record x { granted = true }) refl
-      (ap (option_map (λ words. AnswersWord (tag_at k h.addr) (word_of h.addr) (words_of words) x)) f.is) refl refl refl refl refl (leads-path _ _ refl)
+      (ap (option_map (λ words. AnswersWord (tag_at k h.addr) (word_of h.addr) (words_of words) x)) f.is) refl refl refl refl refl
+      (leads-path _ _ refl)
 
   pub leads-ucdone : goal forms.Ucdone
   leads-ucdone =
-      sent-to forms.Ucdone (AnswersStore (tag_at k h.addr) (word_of h.addr) h.value x) (record x { granted = true }) refl refl refl refl refl refl refl
+      sent-to forms.Ucdone (AnswersStore (tag_at k h.addr) (word_of h.addr) h.value x) (record x { granted = true }) refl refl refl refl
+      refl refl refl
       (leads-path _ _ refl)
 
   pub leads-done : goal forms.Done
   leads-done =
-      sent-to forms.Done (AnswersEvict (tag_at k h.addr) h.way x) (record x { granted = true }) refl refl refl refl refl refl refl (leads-path _ _ refl)
+      sent-to forms.Done (AnswersEvict (tag_at k h.addr) h.way x) (record x { granted = true }) refl refl refl refl refl refl refl
+      (leads-path _ _ refl)
 
   -- THE END: nothing is told any more
 
   pub leads-fin : x.granted ≡ true → goal forms.Fin
   leads-fin granted =
-      leads-path (idle_with (exact k n.engine told)) (after_mask k n told choice message forms.Fin)
-      (λ z. record (idle_with (exact k n.engine told)) {
+      leads-path (idle_with (exact k later.engine told)) (after_mask k later told choice message forms.Fin)
+      (λ z. record (idle_with (exact k later.engine told)) {
         stage =
             (ap (λ (o : Option (ℕ × Transaction)). stage_of o told.deferred) gone
             ∙ ap (stage_of None) (no-deferred w told.deferred (s, x) tied.left v.is_told)) z;
         head = only (head_value ((v.serves.closed granted).no_head z));
-        gp = (gp-none (directory_held k n.engine.directory e.held forms.Fin) e.head (v.serves.closed granted).no_head) z;
+        gp = (gp-none (directory_for_held k later.engine.directory e.held forms.Fin) e.head (v.serves.closed granted).no_head) z;
         acks = only (number_of (nat_lt 0 (no-acks z)));
         wb = wb_of (gone z);
         mem = mem_of (gone z);
@@ -191,7 +205,7 @@ module _ (k : Shape) (n : State) (told : Told) (tied : Tied k n told) (v : Servi
       gone = ap (transaction_after w) (λ z. served_action k e (v.is_held z) (v.is_told z) w forms.Fin)
 
       no-acks : e.acks ≡ 0
-      no-acks = v.serves.acks ∙ ap length (granted-is k n told tied v granted).no_acks
+      no-acks = v.serves.acks ∙ ap length (granted-is k later told tied v granted).no_acks
 
       gp-none : (d : Contents) (o : Option Head) → o ≡ None → gp_of d k o ≡ GP_FREE
       gp-none d o i = ap (gp_of d k) i

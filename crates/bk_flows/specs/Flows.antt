@@ -11,8 +11,8 @@ use Rattle.bk_order.specs.Fits.{Leads}
 use Rattle.bk_engine.specs.declared.parts.Choice.{Choice}
 use Rattle.bk_engine.specs.declared.stop.Stop.{Stop}
 use Rattle.bk_engine.specs.declared.stop.Stop.TheVariants.{Waits, Halts}
-use Rattle.bk_engine.specs.Core.{EngineState}
-use Rattle.bk_engine.specs.Reads.{goes}
+use Rattle.bk_engine.specs.Engine.{EngineState}
+use Rattle.bk_engine.specs.Reads.{is_branch_taken}
 use Rattle.bk_engine.specs.Stops.{form_stop}
 use Rattle.bk_system.specs.declared.event.Event.TheVariants.{Engine}
 use Rattle.bk_system.specs.State.{State}
@@ -31,19 +31,20 @@ IsNoHalt (Some (Halts reason)) = ⊥
 
 -- the edge that an instruction takes: where it branches, to its target, else to the next place
 abbrev pub edge_of : Shape → EngineState → Form → Sets → Option Sets
-edge_of k n f s = if goes k n f then jump f s else fall f s
+edge_of k engine f sets = if is_branch_taken k engine f then jump f sets else fall f sets
 
 -- THE STATEMENTS
 
 -- An instruction whose obligations the exact mask meets doesn't halt.
 abbrev pub NeverHalts : Type 0
-NeverHalts = (k : Shape) (n : State) (told : Told) (f : Form) (choice : Choice) (message : Option Row)
-    → Tied k n told → IsInRange f → unmet_here f (exact k n.engine told) ≡ None → IsNoHalt (form_stop k n.engine f choice message)
+NeverHalts = (k : Shape) (s : State) (told : Told) (f : Form) (choice : Choice) (message : Option Row)
+    → Tied k s told → IsInRange f → unmet_here f (exact k s.engine told) ≡ None → IsNoHalt (form_stop k s.engine f choice message)
 
 -- After such an instruction that runs, the exact mask fits what the edge that is taken leads in, and that edge exists.
 abbrev pub MaskFollows : Type 0
-MaskFollows = (k : Shape) (program : List Form) (n : State) (told : Told) (choice : Choice) (f : Form)
-    → InProfile k → IsInRange f → Tied k n told → slice_get program n.engine.core.place ≡ Some f → can_run k program n choice ≡ true
-    → unmet_here f (exact k n.engine told) ≡ None
-    → Leads (edge_of k n.engine f (exact k n.engine told))
-    (exact k (after k program n (Engine choice)).engine (told_after k n.engine.core (told_world k n told) f told))
+MaskFollows = (k : Shape) (program : List Form) (s : State) (told : Told) (choice : Choice) (f : Form)
+    → InProfile k → IsInRange f → Tied k s told → slice_get program s.engine.core.place ≡ Some f
+    → can_run k program s choice ≡ true
+    → unmet_here f (exact k s.engine told) ≡ None
+    → Leads (edge_of k s.engine f (exact k s.engine told))
+    (exact k (after k program s (Engine choice)).engine (told_after k s.engine.core (told_world k s told) f told))

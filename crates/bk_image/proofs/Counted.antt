@@ -21,19 +21,29 @@ is_count : (n : ℕ) → eqb n 0 ≡ false → ltb 256 n ≡ false → IsCount n
 is_count zero not_none not_more = absurd cc
 is_count (suc n) not_none not_more = (omega arith, ltb-false _ _ not_more)
 
-count_takes : (total : ℕ) (bytes : List ℕ) (x : ℕ × List ℕ) → IsBytes bytes → count_at total bytes ≡ Ok x → Takes bytes (to_le_bytes w32 x.0) x.1 × IsCount x.0
+count_takes : (total : ℕ) (bytes : List ℕ) (x : ℕ × List ℕ) → IsBytes bytes → count_at total bytes ≡ Ok x
+    → Takes bytes (to_le_bytes w32 x.0) x.1 × IsCount x.0
 unfolding count_at
 count_takes total bytes x fits e =
-    let b = bind_ok (number_at w32 total bytes) (λ count. cond (eqb count.0 0) (Err (bad (total - length bytes) Count)) (cond (ltb 256 count.0) (Err (bad (total - length bytes) TooMany)) (Ok count))) x e in
-    let g = fails_not (eqb b.0.0 0) (bad (total - length bytes) Count) (cond (ltb 256 b.0.0) (Err (bad (total - length bytes) TooMany)) (Ok b.0)) x b.2 in
+    let b = bind_ok (number_at w32 total bytes)
+    (λ count. cond (eqb count.0 0) (Err (bad (total - length bytes) Count))
+    (cond (ltb 256 count.0) (Err (bad (total - length bytes) TooMany)) (Ok count))) x e in
+    let g = fails_not (eqb b.0.0 0) (bad (total - length bytes) Count)
+    (cond (ltb 256 b.0.0) (Err (bad (total - length bytes) TooMany)) (Ok b.0)) x b.2 in
     let h = fails_not (ltb 256 b.0.0) (bad (total - length bytes) TooMany) (Ok b.0) x g.1 in
     let t = number_takes wide32 total bytes b.0 fits b.1 in
-    subst (λ (y : ℕ × List ℕ). Takes bytes (to_le_bytes w32 y.0) y.1 × IsCount y.0) (ok_is b.0 x h.1) (t.takes, is_count b.0.0 g.0 h.0)
+    subst (λ (y : ℕ × List ℕ). Takes bytes (to_le_bytes w32 y.0) y.1 × IsCount y.0) (ok_is b.0 x h.1) (
+      t.takes,
+      is_count b.0.0 g.0 h.0,
+    )
 
-know_count_takes : (instrs total : ℕ) (bytes : List ℕ) (x : ℕ × List ℕ) → IsBytes bytes → know_count_at instrs total bytes ≡ Ok x → Takes bytes (to_le_bytes w32 x.0) x.1
+know_count_takes : (instrs total : ℕ) (bytes : List ℕ) (x : ℕ × List ℕ) → IsBytes bytes
+    → know_count_at instrs total bytes ≡ Ok x
+    → Takes bytes (to_le_bytes w32 x.0) x.1
 unfolding know_count_at
 know_count_takes instrs total bytes x fits e =
-    let b = bind_ok (number_at w32 total bytes) (λ knows. cond (ltb instrs knows.0) (Err (bad (total - length bytes) Count)) (Ok knows)) x e in
+    let b = bind_ok (number_at w32 total bytes)
+    (λ knows. cond (ltb instrs knows.0) (Err (bad (total - length bytes) Count)) (Ok knows)) x e in
     let g = fails_not (ltb instrs b.0.0) (bad (total - length bytes) Count) (Ok b.0) x b.2 in
     let t = number_takes wide32 total bytes b.0 fits b.1 in
     subst (λ (y : ℕ × List ℕ). Takes bytes (to_le_bytes w32 y.0) y.1) (ok_is b.0 x g.1) t.takes
@@ -57,7 +67,8 @@ after_version total version = byte_at 0 ReservedByte total version.1 >>= after_f
 abbrev counts : Counts → List ℕ
 counts n = (1 ∷ 0 ∷ 0 ∷ 0 ∷ []) ++ to_le_bytes w32 n.instrs ++ to_le_bytes w32 n.knows
 
-counts_take : (total : ℕ) (bytes : List ℕ) (x : Counts × List ℕ) → IsBytes bytes → counts_at total bytes ≡ Ok x → Takes bytes (counts x.0) x.1 × IsCount x.0.instrs
+counts_take : (total : ℕ) (bytes : List ℕ) (x : Counts × List ℕ) → IsBytes bytes → counts_at total bytes ≡ Ok x
+    → Takes bytes (counts x.0) x.1 × IsCount x.0.instrs
 unfolding counts_at
 counts_take total bytes x fits e =
     let v = bind_ok (byte_at 1 Version total bytes) (after_version total) x e in
@@ -73,16 +84,20 @@ counts_take total bytes x fits e =
     let instrs = count_takes total c.0.1 n.0 third.rest_fits n.1 in
     let knows = know_count_takes n.0.0 total n.0.1 k.0 instrs.0.rest_fits k.1 in
     let made : Counts × List ℕ = (record { instrs = n.0.0; knows = k.0.0 }, k.0.1) in
-    let all : Takes bytes (counts made.0) made.1 = Takes-then version (Takes-then first (Takes-then second (Takes-then third (Takes-then instrs.0 knows)))) in
+    let all : Takes bytes (counts made.0) made.1 =
+    Takes-then version (Takes-then first (Takes-then second (Takes-then third (Takes-then instrs.0 knows)))) in
     subst (λ (y : Counts × List ℕ). Takes bytes (counts y.0) y.1 × IsCount y.0.instrs) (ok_is made x k.2) (all, instrs.1)
 
-pub header_takes : (total : ℕ) (bytes : List ℕ) (x : Counts × List ℕ) → IsBytes bytes → header_at total bytes ≡ Ok x → Takes bytes (header x.0.instrs x.0.knows) x.1 × IsCount x.0.instrs
+pub header_takes : (total : ℕ) (bytes : List ℕ) (x : Counts × List ℕ) → IsBytes bytes → header_at total bytes ≡ Ok x
+    → Takes bytes (header x.0.instrs x.0.knows) x.1 × IsCount x.0.instrs
 unfolding header_at
 header_takes total bytes x fits e =
-    let m = bind_ok (number_at w32 total bytes) (λ magic. cond (eqb magic.0 magic_number) (counts_at total magic.1) (Err (bad (total - length bytes) Magic))) x e in
+    let m = bind_ok (number_at w32 total bytes)
+    (λ magic. cond (eqb magic.0 magic_number) (counts_at total magic.1) (Err (bad (total - length bytes) Magic))) x e in
     let h = holds (eqb m.0.0 magic_number) (bad (total - length bytes) Magic) (counts_at total m.0.1) x m.2 in
     let t = number_takes wide32 total bytes m.0 fits m.1 in
-    let magic : Takes bytes (codes "BKUC") m.0.1 = subst (λ (n : ℕ). Takes bytes (to_le_bytes w32 n) m.0.1) (eqb-true m.0.0 magic_number h.0) t.takes in
+    let magic : Takes bytes (codes "BKUC") m.0.1 =
+    subst (λ (n : ℕ). Takes bytes (to_le_bytes w32 n) m.0.1) (eqb-true m.0.0 magic_number h.0) t.takes in
     let rest = counts_take total m.0.1 x t.takes.rest_fits h.1 in
     (Takes-then magic rest.0, rest.1)
 
@@ -95,23 +110,32 @@ count_again total n rest some few =
     let not_more : ltb 256 n ≡ false = le-ltb _ _ few in
     rw (number_again wide32 total n rest (omega (arith, few)), not_none, not_more) refl
 
-know_count_again : (instrs total n : ℕ) (rest : List ℕ) → n ≤ instrs → n < 2 ^ 32 → know_count_at instrs total (to_le_bytes w32 n ++ rest) ≡ Ok (n, rest)
+know_count_again : (instrs total n : ℕ) (rest : List ℕ) → n ≤ instrs → n < 2 ^ 32
+    → know_count_at instrs total (to_le_bytes w32 n ++ rest) ≡ Ok (n, rest)
 unfolding know_count_at
 know_count_again instrs total n rest few small =
     let not_more : ltb instrs n ≡ false = le-ltb _ _ few in
     rw (number_again wide32 total n rest small, not_more) refl
 
 abbrev pub AreCounts : Counts → Type 0
-AreCounts n = IsCount n.instrs × (n.knows ≤ n.instrs)
+AreCounts counts = IsCount counts.instrs × (counts.knows ≤ counts.instrs)
 
-counts_again : (total : ℕ) (n : Counts) (rest : List ℕ) → AreCounts n → counts_at total (1 ∷ 0 ∷ 0 ∷ 0 ∷ (to_le_bytes w32 n.instrs ++ (to_le_bytes w32 n.knows ++ rest))) ≡ Ok (n, rest)
+counts_again : (total : ℕ) (counts : Counts) (rest : List ℕ) → AreCounts counts
+    → counts_at total (1 ∷ 0 ∷ 0 ∷ 0 ∷ (to_le_bytes w32 counts.instrs ++ (to_le_bytes w32 counts.knows ++ rest)))
+    ≡ Ok (counts, rest)
 unfolding counts_at
 counts_again total n rest h =
-    rw (count_again total n.instrs (to_le_bytes w32 n.knows ++ rest) h.0.0 h.0.1, know_count_again n.instrs total n.knows rest h.1 (omega (arith, h.1, h.0.1))) refl
+    rw (
+      count_again total n.instrs (to_le_bytes w32 n.knows ++ rest) h.0.0 h.0.1,
+      know_count_again n.instrs total n.knows rest h.1 (omega (arith, h.1, h.0.1)),
+    ) refl
 
-pub header_again : (total : ℕ) (n : Counts) (rest : List ℕ) → AreCounts n → header_at total (header n.instrs n.knows ++ rest) ≡ Ok (n, rest)
+pub header_again : (total : ℕ) (counts : Counts) (rest : List ℕ) → AreCounts counts
+    → header_at total (header counts.instrs counts.knows ++ rest) ≡ Ok (counts, rest)
 unfolding header_at
 header_again total n rest h =
     let after = 1 ∷ 0 ∷ 0 ∷ 0 ∷ (to_le_bytes w32 n.instrs ++ (to_le_bytes w32 n.knows ++ rest)) in
-    let regrouped : header n.instrs n.knows ++ rest ≡ to_le_bytes w32 magic_number ++ after = ap (λ (t : List ℕ). codes "BKUC" ++ (1 ∷ 0 ∷ 0 ∷ 0 ∷ t)) (append_assoc (to_le_bytes w32 n.instrs) (to_le_bytes w32 n.knows) rest) in
+    let regrouped : header n.instrs n.knows ++ rest ≡ to_le_bytes w32 magic_number
+    ++ after = ap (λ (text : List ℕ). codes "BKUC" ++ (1 ∷ 0 ∷ 0 ∷ 0 ∷ text))
+    (append_assoc (to_le_bytes w32 n.instrs) (to_le_bytes w32 n.knows) rest) in
     ap (header_at total) regrouped ∙ rw (number_again wide32 total magic_number after (omega arith), counts_again total n rest h) refl

@@ -1,7 +1,7 @@
 -- Small images, read by computing.
 use Rattle.std.proofs.Common.{◌≡◌, ℕ, ◌+◌, List, [], ◌∷◌, ◌++◌, take, drop, Ok, Err, refl}
 use Rattle.bk_isa.specs.declared.form.Form.TheVariants.{Nop}
-use Rattle.bk_know.specs.Sets.{idle, held}
+use Rattle.bk_know.specs.Sets.{idle_base, held_base}
 use Rattle.bk_image.specs.Images.{Parts}
 use Rattle.bk_image.specs.Faults.{bad}
 use Rattle.bk_image.specs.declared.fault.Kind.TheVariants.{Magic, Version, ReservedByte, Count, TooMany, Opcode, WordField, WordReserved, KnowLine, NotAscending, Short, Trailing}
@@ -42,7 +42,15 @@ record HeaderFaults : Type 0 where
 
 header_faults : HeaderFaults
 unfolding image_at header_at counts_at count_at know_count_at word_at words_at mask_at line_at lines_at
-header_faults = record { other_magic = refl; other_version = refl; second_reserved_byte = refl; no_instruction = refl; too_many = refl; more_know_lines = refl; know_line_missing = refl }
+header_faults = record {
+  other_magic = refl;
+  other_version = refl;
+  second_reserved_byte = refl;
+  no_instruction = refl;
+  too_many = refl;
+  more_know_lines = refl;
+  know_line_missing = refl;
+}
 
 -- the word at byte 16, its opcode at byte 23
 record WordFaults : Type 0 where
@@ -63,7 +71,17 @@ record WordFaults : Type 0 where
 
 word_faults : WordFaults
 unfolding image_at header_at counts_at count_at know_count_at word_at words_at mask_at line_at lines_at
-word_faults = record { no_opcode = refl; reserved_a = refl; reserved_c = refl; reserved_imm = refl; reserved_imm_high = refl; no_flag = refl; no_tested_field = refl; empty_set = refl; no_place = refl }
+word_faults = record {
+  no_opcode = refl;
+  reserved_a = refl;
+  reserved_c = refl;
+  reserved_imm = refl;
+  reserved_imm_high = refl;
+  no_flag = refl;
+  no_tested_field = refl;
+  empty_set = refl;
+  no_place = refl;
+}
 
 -- the end
 record EndFaults : Type 0 where
@@ -79,7 +97,7 @@ end_faults = record { empty = refl; short_word = refl; one_byte_more = refl }
 
 -- two instructions and two know lines, at places 0 and 1: what is known of an idle engine, and of one that holds a request
 abbrev two_nops : Parts
-two_nops = record { instrs = Nop ∷ Nop ∷ []; knows = (0, idle) ∷ (1, held) ∷ [] }
+two_nops = record { instrs = Nop ∷ Nop ∷ []; knows = (0, idle_base) ∷ (1, held_base) ∷ [] }
 
 abbrev lined : List ℕ
 lined = spelling two_nops
@@ -88,7 +106,8 @@ abbrev relined : ℕ → ℕ → List ℕ
 relined at byte = take at lined ++ byte ∷ drop (at + 1) lined
 
 -- the counts, two words, then place and mask twice
-lined_is_spelled : drop 8 lined ≡ 2 ∷ 0 ∷ 0 ∷ 0 ∷ 2 ∷ 0 ∷ 0 ∷ 0 ∷ 0 ∷ 0 ∷ 0 ∷ 0 ∷ 0 ∷ 0 ∷ 0 ∷ 0 ∷ 0 ∷ 0 ∷ 0 ∷ 0 ∷ 0 ∷ 0 ∷ 0 ∷ 0
+lined_is_spelled : drop 8 lined ≡ 2 ∷ 0 ∷ 0 ∷ 0 ∷ 2 ∷ 0 ∷ 0 ∷ 0 ∷ 0 ∷ 0 ∷ 0 ∷ 0 ∷ 0 ∷ 0 ∷ 0 ∷ 0 ∷ 0 ∷ 0
+    ∷ 0 ∷ 0 ∷ 0 ∷ 0 ∷ 0 ∷ 0
     ∷ 0 ∷ 0 ∷ 0 ∷ 0 ∷ 17 ∷ 40 ∷ 36 ∷ 8 ∷ 85 ∷ 34 ∷ 8 ∷ 255
     ∷ 1 ∷ 0 ∷ 0 ∷ 0 ∷ 20 ∷ 232 ∷ 231 ∷ 255 ∷ 95 ∷ 34 ∷ 8 ∷ 255 ∷ []
 lined_is_spelled = refl
@@ -111,4 +130,13 @@ record LineFaults : Type 0 where
 
 line_faults : LineFaults
 unfolding image_at header_at counts_at count_at know_count_at word_at words_at mask_at line_at lines_at
-line_faults = record { no_place = refl; empty_field = refl; same_place = refl; no_place_first = refl; order_first = refl; short_place = refl; short_mask = refl; one_byte_more = refl }
+line_faults = record {
+  no_place = refl;
+  empty_field = refl;
+  same_place = refl;
+  no_place_first = refl;
+  order_first = refl;
+  short_place = refl;
+  short_mask = refl;
+  one_byte_more = refl;
+}

@@ -19,7 +19,8 @@ use Rattle.bk_image.proofs.Numbers.{IsBytes, bind_ok, holds, ok_is, Takes, Takes
 
 -- what follows each of the parts that `image_at` reads
 abbrev at_end : ℕ → List Form → List Line × List ℕ → Result Parts Bad
-at_end total words lines = cond (eqb (length lines.1) 0) (Ok (record { instrs = words; knows = lines.0 })) (Err (bad (total - length lines.1) Trailing))
+at_end total words lines =
+    cond (eqb (length lines.1) 0) (Ok (record { instrs = words; knows = lines.0 })) (Err (bad (total - length lines.1) Trailing))
 
 abbrev after_words : ℕ → Counts → List Form × List ℕ → Result Parts Bad
 after_words total counts words = lines_at total counts.instrs counts.knows 0 words.1 >>= at_end total words.0
@@ -27,6 +28,7 @@ after_words total counts words = lines_at total counts.instrs counts.knows 0 wor
 abbrev after_header : ℕ → Counts × List ℕ → Result Parts Bad
 after_header total counts = words_at total counts.0.instrs counts.1 >>= after_words total counts.0
 
+-- The reader takes header, words and know lines off the bytes, each exactly its spelling, and nothing is left at the end.
 image_takes : (bytes : List ℕ) (p : Parts) → IsBytes bytes → image_at bytes ≡ Ok p → IsImage p × (bytes ≡ spelling p)
 unfolding image_at
 image_takes bytes p fits e =
@@ -42,9 +44,19 @@ image_takes bytes p fits e =
     let nothing : c.0.1 ≡ [] = nil_from_length c.0.1 (eqb-true _ _ h.0) in
     let body = flat_map word b.0.0 ++ flat_map line c.0.0 in
     let all : Takes bytes (header a.0.0.instrs a.0.0.knows ++ body) c.0.1 = Takes-then front.0 (Takes-then words.0 lines.0) in
-    let whole : bytes ≡ header a.0.0.instrs a.0.0.knows ++ body = all.parts ∙ ap (λ (r : List ℕ). (header a.0.0.instrs a.0.0.knows ++ body) ++ r) nothing ∙ append-nil (header a.0.0.instrs a.0.0.knows ++ body) in
+    let whole : bytes ≡ header a.0.0.instrs a.0.0.knows ++ body = all.parts
+    ∙ ap (λ (r : List ℕ). (header a.0.0.instrs a.0.0.knows ++ body) ++ r) nothing
+    ∙ append-nil (header a.0.0.instrs a.0.0.knows ++ body) in
     let counted : bytes ≡ spelling made = rw (words.1, lines.1) whole in
-    let is_image : IsImage made = record { whole = record { count = record { some = omega (arith, front.1.0, words.1); few = omega (arith, front.1.1, words.1) }; lines = rw words.1 (lines_ascend total a.0.0.instrs a.0.0.knows 0 b.0.1 c.0 c.1) }; in_range = words.2; masks = lines.2 } in
+    let is_image : IsImage made =
+    record {
+      whole = record {
+        count = record { some = omega (arith, front.1.0, words.1); few = omega (arith, front.1.1, words.1) };
+        lines = rw words.1 (lines_ascend total a.0.0.instrs a.0.0.knows 0 b.0.1 c.0 c.1);
+      };
+      in_range = words.2;
+      masks = lines.2;
+    } in
     subst (λ (q : Parts). IsImage q × (bytes ≡ spelling q)) (ok_is made p h.1) (is_image, counted)
 
 -- what is spelled so is read
@@ -54,11 +66,20 @@ image_again p h =
     let total = length (spelling p) in
     let counts : Counts = record { instrs = length p.instrs; knows = length p.knows } in
     let few : length p.knows ≤ length p.instrs = omega (arith, lines_few (length p.instrs) 0 p.knows h.whole.lines) in
-    let lines : lines_at total (length p.instrs) (length p.knows) 0 (flat_map line p.knows) ≡ Ok (p.knows, []) = ap (lines_at total (length p.instrs) (length p.knows) 0) (sym (append-nil (flat_map line p.knows))) ∙ lines_again total (length p.instrs) 0 p.knows [] (omega (arith, h.whole.count.few)) h.whole.lines h.masks in
-    let words : words_at total (length p.instrs) (flat_map word p.instrs ++ flat_map line p.knows) ≡ Ok (p.instrs, flat_map line p.knows) = words_again total p.instrs (flat_map line p.knows) h.in_range in
-    rw (header_again total counts (flat_map word p.instrs ++ flat_map line p.knows) ((h.whole.count.some, h.whole.count.few), few), words, lines) refl
+    let lines : lines_at total (length p.instrs) (length p.knows) 0 (flat_map line p.knows)
+    ≡ Ok (p.knows, []) = ap (lines_at total (length p.instrs) (length p.knows) 0) (sym (append-nil (flat_map line p.knows)))
+    ∙ lines_again total (length p.instrs) 0 p.knows [] (omega (arith, h.whole.count.few)) h.whole.lines h.masks in
+    let words : words_at total (length p.instrs) (flat_map word p.instrs ++ flat_map line p.knows)
+    ≡ Ok (p.instrs, flat_map line p.knows) =
+    words_again total p.instrs (flat_map line p.knows) h.in_range in
+    rw (
+      header_again total counts (flat_map word p.instrs ++ flat_map line p.knows) ((h.whole.count.some, h.whole.count.few), few),
+      words,
+      lines,
+    ) refl
 
 -- what is read is spelled so
-pub is_found : (bytes : List ℕ) (r : Result Parts ImageFault) → IsBytes bytes → Gives (λ i. i) r (image_at bytes) → IfOk r (λ i. IsImage i × (bytes ≡ spelling i))
+pub is_found : (bytes : List ℕ) (r : Result Parts ImageFault) → IsBytes bytes → Gives (λ i. i) r (image_at bytes)
+    → IfOk r (λ i. IsImage i × (bytes ≡ spelling i))
 is_found bytes (Ok i) fits given = image_takes bytes i fits given
 is_found bytes (Err e) fits given = tt

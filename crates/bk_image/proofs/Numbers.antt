@@ -23,7 +23,8 @@ IsBytes-take n bytes h i =
     ]
 
 -- the value of a step that did not fail
-pub bind_ok : {A B : Type 0} (r : Result A Bad) (f : A → Result B Bad) (y : B) → (r >>= f) ≡ Ok y → (x : A) × (r ≡ Ok x) × (f x ≡ Ok y)
+pub bind_ok : {A B : Type 0} (r : Result A Bad) (f : A → Result B Bad) (y : B) → (r >>= f) ≡ Ok y
+    → (x : A) × (r ≡ Ok x) × (f x ≡ Ok y)
 bind_ok (Ok x) f y e = (x, refl, e)
 bind_ok (Err d) f y e = absurd cc
 
@@ -48,15 +49,19 @@ pub record Takes (bytes text rest : List ℕ) : Type 0 where
   pub rest_fits : IsBytes rest
 
 pub Takes-then : {a x b y c : List ℕ} → Takes a x b → Takes b y c → Takes a (x ++ y) c
-Takes-then {x = x} {y = y} {c = c} p q = record { parts = p.parts ∙ ap (λ (t : List ℕ). x ++ t) q.parts ∙ sym (append_assoc x y c); rest_fits = q.rest_fits }
+Takes-then {x = x} {y = y} {c = c} p q = record {
+  parts = p.parts ∙ ap (λ (text : List ℕ). x ++ text) q.parts ∙ sym (append_assoc x y c);
+  rest_fits = q.rest_fits;
+}
 
 -- ---- numbers
 
-pub record IsWide (w : Width) (limit : ℕ) : Type 0 where
-  pub len : (n : ℕ) → length (to_le_bytes w n) ≡ byte_len w
-  pub back : (bytes : List ℕ) → length bytes ≡ byte_len w → IsBytes bytes → to_le_bytes w (from_le_bytes w bytes) ≡ bytes
-  pub again : (n : ℕ) → n < limit → from_le_bytes w (to_le_bytes w n) ≡ n
-  pub below : (bytes : List ℕ) → IsBytes bytes → from_le_bytes w bytes < limit
+pub record IsWide (width : Width) (limit : ℕ) : Type 0 where
+  pub len : (n : ℕ) → length (to_le_bytes width n) ≡ byte_len width
+  pub back : (bytes : List ℕ) → length bytes ≡ byte_len width → IsBytes bytes
+      → to_le_bytes width (from_le_bytes width bytes) ≡ bytes
+  pub again : (n : ℕ) → n < limit → from_le_bytes width (to_le_bytes width n) ≡ n
+  pub below : (bytes : List ℕ) → IsBytes bytes → from_le_bytes width bytes < limit
 
 pub wide32 : IsWide w32 (2 ^ 32)
 wide32 = record {
@@ -74,25 +79,40 @@ wide64 = record {
   below = λ bytes fits. omega (arith, fits 0, fits 1, fits 2, fits 3, fits 4, fits 5, fits 6, fits 7);
 }
 
-pub record TakesNumber (w : Width) (limit : ℕ) (bytes : List ℕ) (n : ℕ) (rest : List ℕ) : Type 0 where
-  pub takes : Takes bytes (to_le_bytes w n) rest
-  pub rest-is : drop (byte_len w) bytes ≡ rest
+pub record TakesNumber (width : Width) (limit : ℕ) (bytes : List ℕ) (n : ℕ) (rest : List ℕ) : Type 0 where
+  pub takes : Takes bytes (to_le_bytes width n) rest
+  pub rest-is : drop (byte_len width) bytes ≡ rest
   pub small : n < limit
 
-pub number_takes : {w : Width} {limit : ℕ} (wide : IsWide w limit) (total : ℕ) (bytes : List ℕ) (x : ℕ × List ℕ) → IsBytes bytes → number_at w total bytes ≡ Ok x → TakesNumber w limit bytes x.0 x.1
+-- There are bytes enough, or the reader would have failed; the number of little-endian bytes has these bytes again.
+pub number_takes : {w : Width} {limit : ℕ} (wide : IsWide w limit) (total : ℕ) (bytes : List ℕ) (x : ℕ × List ℕ)
+    → IsBytes bytes
+    → number_at w total bytes ≡ Ok x → TakesNumber w limit bytes x.0 x.1
 number_takes {w = w} wide total bytes x fits e =
-    let g = fails_not (ltb (length bytes) (byte_len w)) (bad total Short) (Ok (from_le_bytes w (take (byte_len w) bytes), drop (byte_len w) bytes)) x e in
+    let g = fails_not (ltb (length bytes) (byte_len w)) (bad total Short)
+    (Ok (from_le_bytes w (take (byte_len w) bytes), drop (byte_len w) bytes)) x e in
     let long : byte_len w ≤ length bytes = ltb-false _ _ g.0 in
     let same = ok_is _ _ g.1 in
     let n-is : from_le_bytes w (take (byte_len w) bytes) ≡ x.0 = ap (λ (p : ℕ × List ℕ). p.0) same in
     let rest-is : drop (byte_len w) bytes ≡ x.1 = ap (λ (p : ℕ × List ℕ). p.1) same in
-    let front : to_le_bytes w x.0 ≡ take (byte_len w) bytes = rw (← n-is) (wide.back (take (byte_len w) bytes) (omega (arith, length-take (byte_len w) bytes)) (IsBytes-take (byte_len w) bytes fits)) in
-    record { takes = record { parts = rw (front, ← rest-is) (sym (take-append-drop (byte_len w) bytes)); rest_fits = rw (← rest-is) (IsBytes-drop (byte_len w) bytes fits) }; rest-is = rest-is; small = rw (← n-is) (wide.below (take (byte_len w) bytes) (IsBytes-take (byte_len w) bytes fits)) }
+    let front : to_le_bytes w x.0
+    ≡ take (byte_len w) bytes = rw (← n-is)
+    (wide.back (take (byte_len w) bytes) (omega (arith, length-take (byte_len w) bytes)) (IsBytes-take (byte_len w) bytes fits)) in
+    record {
+      takes = record {
+        parts = rw (front, ← rest-is) (sym (take-append-drop (byte_len w) bytes));
+        rest_fits = rw (← rest-is) (IsBytes-drop (byte_len w) bytes fits);
+      };
+      rest-is = rest-is;
+      small = rw (← n-is) (wide.below (take (byte_len w) bytes) (IsBytes-take (byte_len w) bytes fits));
+    }
 
-pub number_again : {w : Width} {limit : ℕ} (wide : IsWide w limit) (total n : ℕ) (rest : List ℕ) → n < limit → number_at w total (to_le_bytes w n ++ rest) ≡ Ok (n, rest)
+pub number_again : {w : Width} {limit : ℕ} (wide : IsWide w limit) (total n : ℕ) (rest : List ℕ) → n < limit
+    → number_at w total (to_le_bytes w n ++ rest) ≡ Ok (n, rest)
 number_again {w = w} wide total n rest lt =
     let len = wide.len n in
-    let long : ltb (length (to_le_bytes w n ++ rest)) (byte_len w) ≡ false = le-ltb _ _ (omega (arith, length-append (to_le_bytes w n) rest)) in
+    let long : ltb (length (to_le_bytes w n ++ rest)) (byte_len w) ≡ false =
+    le-ltb _ _ (omega (arith, length-append (to_le_bytes w n) rest)) in
     rw (long, take_at (to_le_bytes w n) rest (byte_len w) len, drop_at (to_le_bytes w n) rest (byte_len w) len, wide.again n lt) refl
 
 -- ---- a given byte
@@ -100,7 +120,8 @@ number_again {w = w} wide total n rest lt =
 IsBytes-rest : (b : ℕ) (bytes : List ℕ) → IsBytes (b ∷ bytes) → IsBytes bytes
 IsBytes-rest b bytes h i = h (suc i)
 
-pub byte_takes : (want : ℕ) (kind : Kind) (total : ℕ) (bytes : List ℕ) (x : ℕ × List ℕ) → IsBytes bytes → byte_at want kind total bytes ≡ Ok x → Takes bytes (want ∷ []) x.1
+pub byte_takes : (want : ℕ) (kind : Kind) (total : ℕ) (bytes : List ℕ) (x : ℕ × List ℕ) → IsBytes bytes
+    → byte_at want kind total bytes ≡ Ok x → Takes bytes (want ∷ []) x.1
 byte_takes want kind total [] x fits e = absurd cc
 byte_takes want kind total (b ∷ bytes) x fits e =
     let h = holds (eqb b want) (bad (total - length (b ∷ bytes)) kind) (Ok (b, bytes)) x e in

@@ -21,7 +21,8 @@ abbrev pub ◌>>=◌ : {A B : Type 0} → Result A Bad → (A → Result B Bad) 
 
 -- a number, little-endian
 abbrev pub number_at : Width → ℕ → List ℕ → Result (ℕ × List ℕ) Bad
-number_at w total bytes = if nat_lt (length bytes) (byte_len w) then Err (bad total Short) else Ok (from_le_bytes w (take (byte_len w) bytes), drop (byte_len w) bytes)
+number_at width total bytes = if nat_lt (length bytes) (byte_len width) then Err (bad total Short)
+    else Ok (from_le_bytes width (take (byte_len width) bytes), drop (byte_len width) bytes)
 
 -- a byte that has to be a given one
 abbrev pub byte_at : ℕ → Kind → ℕ → List ℕ → Result (ℕ × List ℕ) Bad
@@ -32,7 +33,8 @@ byte_at want kind total (b ∷ rest) = if b == want then Ok (b, rest) else Err (
 unfoldable pub count_at : ℕ → List ℕ → Result (ℕ × List ℕ) Bad
 count_at total bytes = do
   count ← number_at w32 total bytes
-  if count.0 == 0 then Err (bad (total - length bytes) Count) else if nat_lt 256 count.0 then Err (bad (total - length bytes) TooMany) else Ok count
+  if count.0 == 0 then Err (bad (total - length bytes) Count) else if nat_lt 256 count.0 then Err (bad (total - length bytes) TooMany)
+      else Ok count
 
 -- the count of know lines, at most that of instructions
 unfoldable pub know_count_at : ℕ → ℕ → List ℕ → Result (ℕ × List ℕ) Bad
@@ -97,7 +99,9 @@ mask_at total bytes = do
 unfoldable pub line_at : ℕ → ℕ → ℕ → List ℕ → Result Line Bad
 line_at total instrs least bytes = do
   place ← number_at w32 total bytes
-  if nat_lt place.0 instrs then (if nat_lt place.0 least then Err (bad (total - length bytes) NotAscending) else (mask_at total place.1 >>= λ sets. Ok (place.0, sets))) else Err (bad (total - length bytes) KnowLine)
+  if nat_lt place.0 instrs
+      then (if nat_lt place.0 least then Err (bad (total - length bytes) NotAscending)
+      else (mask_at total place.1 >>= λ sets. Ok (place.0, sets))) else Err (bad (total - length bytes) KnowLine)
 
 -- as many know lines as the count says
 unfoldable pub lines_at : ℕ → ℕ → ℕ → ℕ → List ℕ → Result (List Line × List ℕ) Bad

@@ -19,8 +19,8 @@ abbrev pub line : Line → List ℕ
 line k = to_le_bytes w32 k.0 ++ to_le_bytes w64 (mask_of k.1)
 
 -- what is known there is what some mask says
-pub record HasMask (k : Line) : Type 0 where
-  pub know : IsKnow k.1
+pub record HasMask (line : Line) : Type 0 where
+  pub know : IsKnow line.1
 
 abbrev pub spelling : Parts → List ℕ
 spelling p = header (length p.instrs) (length p.knows) ++ flat_map word p.instrs ++ flat_map line p.knows

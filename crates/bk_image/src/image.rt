@@ -1,5 +1,5 @@
 ghost use Rattle.std.specs.Prelude.{◌≡◌, ◌<◌, ◌≤◌, ◌↔◌, length, slice_index_or, true, Some, None, IfSome, IsSome, IfOk, IfErr};
-ghost use Rattle.bk_know.specs.Sets.{idle};
+ghost use Rattle.bk_know.specs.Sets.{idle_base};
 ghost use Rattle.bk_image.specs.Images.{are_lines, known, IsWhole};
 
 use bk_isa::Instr;
@@ -96,7 +96,7 @@ impl Image {
     /// Which know line is that of a place, or where one would go.
     fn search(&self, place: u32) -> Result<usize, usize>
         ensures found { IfOk result (λ index. (index < length self.now.knows)
-            × (known self.now.knows place ≡ Some (slice_index_or self.now.knows index (0, idle)).1)) }
+            × (known self.now.knows place ≡ Some (slice_index_or self.now.knows index (0, idle_base)).1)) }
         ensures absent { IfErr result (λ _. known self.now.knows place ≡ None) }
     {
         self.knows.binary_search_by_key(&place, |&(at, _)| at)

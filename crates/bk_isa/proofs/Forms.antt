@@ -3,14 +3,15 @@ use Rattle.std.proofs.Common.{◌≡◌, Option, Some, None, refl, sym, ap, subs
 use Rattle.bk_isa.specs.declared.fields.Fields.{Fields}
 use Rattle.bk_isa.specs.declared.form.Form.{Form}
 use Rattle.bk_isa.specs.declared.form.Form.TheVariants.{Nop, Add, Sub, And, Or, Xor, Shl, Shr, Addi, Not, Neg, Mov, Movi, Mova, Movs, Movw, Movk, Bi, Beq, Bne, Blt, Bge, Bk, Sf, Cf, Nf, Movf, Andf, Orf, Rdw, Gad, Wde, Wds, Fin, Wfq, Popq, Defer, Inv, Stwb, Blk, Wake, Tr, Ucblk, Ucdone, Done, Memrd, Memwb, Memww}
-use Rattle.bk_isa.specs.declared.table.Row.{Row}
+use Rattle.bk_isa.specs.declared.table.FieldRanges.{FieldRanges}
 use Rattle.bk_isa.specs.Fields.{fields_of, form_of, AreWide}
-use Rattle.bk_isa.specs.Table.{row_of, fault_by, fault_in}
+use Rattle.bk_isa.specs.Table.{ranges_of, fault_by, fault_in}
 use Rattle.bk_isa.specs.Words.{IsInRange}
 use Rattle.bk_isa.proofs.Admitted.{AdmitsAll-from_none}
 use Rattle.bk_isa.proofs.Operations.{round_trips}
 use Rattle.bk_isa.proofs.States.{state-code_of}
 
+-- by computing, form by form; a state comes back from its code
 pub form_of-fields_of : (f : Form) → form_of (fields_of f) ≡ f
 form_of-fields_of Nop = refl
 form_of-fields_of (Add a b c) = refl
@@ -61,15 +62,15 @@ form_of-fields_of Memrd = refl
 form_of-fields_of Memwb = refl
 form_of-fields_of Memww = refl
 
-at_row : (p : Fields) (o : Option Row) → row_of p.op p.a ≡ o → fault_by p o ≡ None → fields_of (form_of p) ≡ p
-at_row p None q e = absurd cc
-at_row p (Some r) q e = round_trips p.op p refl r q (AdmitsAll-from_none r p e)
+by_ranges : (p : Fields) (o : Option FieldRanges) → ranges_of p.op p.a ≡ o → fault_by p o ≡ None → fields_of (form_of p) ≡ p
+by_ranges p None q e = absurd cc
+by_ranges p (Some r) q e = round_trips p.op p refl r q (AdmitsAll-from_none r p e)
 
 pub fields_of-form_of : (p : Fields) → fault_in p ≡ None → fields_of (form_of p) ≡ p
-fields_of-form_of p e = at_row p (row_of p.op p.a) refl e
+fields_of-form_of p e = by_ranges p (ranges_of p.op p.a) refl e
 
 -- what is made of fields without a fault is in range
 pub form_in_range : (p : Fields) → AreWide p → fault_in p ≡ None → IsInRange (form_of p)
 form_in_range p wide e =
     let back = fields_of-form_of p e in
-    record { wide = subst (λ (q : Fields). AreWide q) (sym back) wide; row = ap (λ (q : Fields). fault_in q) back ∙ e }
+    record { wide = subst (λ (q : Fields). AreWide q) (sym back) wide; admitted = ap (λ (q : Fields). fault_in q) back ∙ e }

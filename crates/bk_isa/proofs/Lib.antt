@@ -1,4 +1,5 @@
 pub mod Admitted
+pub mod Examples
 pub mod Forms
 pub mod Operands
 pub mod Operations

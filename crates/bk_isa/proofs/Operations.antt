@@ -3,15 +3,16 @@ use Rattle.std.proofs.Common.{◌≡◌, ℕ, Some, None, refl, sym, ap, subst, 
 use Rattle.std.proofs.lemmas.Bool.{ne_eqb, cases_eq}
 use Rattle.std.proofs.lemmas.Option.{same_Some}
 use Rattle.bk_isa.specs.declared.fields.Fields.{Fields}
-use Rattle.bk_isa.specs.Opcodes.{NOP, ADD, SUB, AND, OR, XOR, SHL, SHR, ADDI, NOT, NEG, MOV, MOVI, MOVA, MOVS, MOVW, MOVK, BI, BEQ, BNE, BLT, BGE, BK, SF, CF, NF, MOVF, ANDF, ORF, RDW, GAD, WDE, WDS, FIN, WFQ, POPQ, DEFER, INV, STWB, BLK, WAKE, TR, UCBLK, UCDONE, DONE, MEMRD, MEMWB, MEMWW}
-use Rattle.bk_isa.specs.declared.table.Row.{Row}
+use Rattle.bk_isa.specs.declared.opcode.TheConstants.{NOP, ADD, SUB, AND, OR, XOR, SHL, SHR, ADDI, NOT, NEG, MOV, MOVI, MOVA, MOVS, MOVW, MOVK, BI, BEQ, BNE, BLT, BGE, BK, SF, CF, NF, MOVF, ANDF, ORF, RDW, GAD, WDE, WDS, FIN, WFQ, POPQ, DEFER, INV, STWB, BLK, WAKE, TR, UCBLK, UCDONE, DONE, MEMRD, MEMWB, MEMWW}
+use Rattle.bk_isa.specs.declared.table.FieldRanges.{FieldRanges}
 use Rattle.bk_isa.specs.Fields.{fields_of, form_of}
-use Rattle.bk_isa.specs.Table.{row_of}
+use Rattle.bk_isa.specs.Table.{ranges_of}
 use Rattle.bk_isa.proofs.Admitted.{AdmitsAll}
-use Rattle.bk_isa.proofs.States.{code_of-any_state, code_of-valid, code_of-clean, code_of-granted, code_of-left, code_of-received}
+use Rattle.bk_isa.proofs.States.{code_of-all_states, code_of-valid_states, code_of-clean_states, code_of-granted_states, code_of-left_states, code_of-received_states}
 
 abbrev pub RoundTrips : ℕ → Type 0
-RoundTrips op = (p : Fields) → p.op ≡ op → (r : Row) → row_of op p.a ≡ Some r → AdmitsAll r p → fields_of (form_of p) ≡ p
+RoundTrips op = (p : Fields) → p.op ≡ op → (r : FieldRanges) → ranges_of op p.a ≡ Some r → AdmitsAll r p
+    → fields_of (form_of p) ≡ p
 
 trips_nop : RoundTrips NOP
 trips_nop p e r q h = grind arith
@@ -108,12 +109,12 @@ trips_gad p e r q h = grind arith
 
 trips_wde : RoundTrips WDE
 trips_wde p e r q h =
-    let code_a = code_of-valid r.a p.a (ap (λ (row : Row). row.a) (sym (same_Some _ _ q))) h.a in
+    let code_a = code_of-valid_states r.a p.a (ap (λ (x : FieldRanges). x.a) (sym (same_Some _ _ q))) h.a in
     grind (arith, code_a)
 
 trips_wds : RoundTrips WDS
 trips_wds p e r q h =
-    let code_b = code_of-any_state r.b p.b (ap (λ (row : Row). row.b) (sym (same_Some _ _ q))) h.b in
+    let code_b = code_of-all_states r.b p.b (ap (λ (x : FieldRanges). x.b) (sym (same_Some _ _ q))) h.b in
     grind (arith, code_b)
 
 trips_fin : RoundTrips FIN
@@ -133,12 +134,12 @@ trips_inv p e r q h = grind arith
 
 trips_stwb : RoundTrips STWB
 trips_stwb p e r q h =
-    let code_b = code_of-clean r.b p.b (ap (λ (row : Row). row.b) (sym (same_Some _ _ q))) h.b in
+    let code_b = code_of-clean_states r.b p.b (ap (λ (x : FieldRanges). x.b) (sym (same_Some _ _ q))) h.b in
     grind (arith, code_b)
 
 trips_blk : RoundTrips BLK
 trips_blk p e r q h =
-    let code_a = code_of-granted r.a p.a (ap (λ (row : Row). row.a) (sym (same_Some _ _ q))) h.a in
+    let code_a = code_of-granted_states r.a p.a (ap (λ (x : FieldRanges). x.a) (sym (same_Some _ _ q))) h.a in
     grind (arith, code_a)
 
 trips_wake : RoundTrips WAKE
@@ -146,8 +147,8 @@ trips_wake p e r q h = grind arith
 
 trips_tr : RoundTrips TR
 trips_tr p e r q h =
-    let code_a = code_of-left r.a p.a (ap (λ (row : Row). row.a) (sym (same_Some _ _ q))) h.a in
-    let code_b = code_of-received r.b p.b (ap (λ (row : Row). row.b) (sym (same_Some _ _ q))) h.b in
+    let code_a = code_of-left_states r.a p.a (ap (λ (x : FieldRanges). x.a) (sym (same_Some _ _ q))) h.a in
+    let code_b = code_of-received_states r.b p.b (ap (λ (x : FieldRanges). x.b) (sym (same_Some _ _ q))) h.b in
     grind (arith, code_a, code_b)
 
 trips_ucblk : RoundTrips UCBLK
@@ -169,13 +170,14 @@ trips_memww : RoundTrips MEMWW
 trips_memww p e r q h = grind arith
 
 -- an operation is this one, or another one
-split : (op k : ℕ) → RoundTrips k → (eqb op k ≡ false → RoundTrips op) → RoundTrips op
-split op k trips others =
-    elim (cases_eq op k) [
+split : (op number : ℕ) → RoundTrips number → (eqb op number ≡ false → RoundTrips op) → RoundTrips op
+split op number trips others =
+    elim (cases_eq op number) [
       | inl e ↦ subst (λ (n : ℕ). RoundTrips n) (sym e) trips
-      | inr n ↦ others (ne_eqb op k n)
+      | inr n ↦ others (ne_eqb op number n)
     ]
 
+-- An opcode is one of the 48, of which each has its lemma above, or none of them: then it has no ranges.
 pub round_trips : (op : ℕ) → RoundTrips op
 round_trips op =
     split op NOP trips_nop (λ not_nop.
@@ -226,5 +228,54 @@ round_trips op =
     split op MEMRD trips_memrd (λ not_memrd.
     split op MEMWB trips_memwb (λ not_memwb.
     split op MEMWW trips_memww (λ not_memww.
-    λ p e r q h. let none : row_of op p.a ≡ None = rw (not_nop, not_add, not_sub, not_and, not_or, not_xor, not_shl, not_shr, not_addi, not_not, not_neg, not_mov, not_movi, not_mova, not_movs, not_movw, not_movk, not_bi, not_beq, not_bne, not_blt, not_bge, not_bk, not_sf, not_cf, not_nf, not_movf, not_andf, not_orf, not_rdw, not_gad, not_wde, not_wds, not_fin, not_wfq, not_popq, not_defer, not_inv, not_stwb, not_blk, not_wake, not_tr, not_ucblk, not_ucdone, not_done, not_memrd, not_memwb, not_memww) refl in absurd cc
+    λ p e r q h. let none : ranges_of op p.a ≡ None = rw (
+      not_nop,
+      not_add,
+      not_sub,
+      not_and,
+      not_or,
+      not_xor,
+      not_shl,
+      not_shr,
+      not_addi,
+      not_not,
+      not_neg,
+      not_mov,
+      not_movi,
+      not_mova,
+      not_movs,
+      not_movw,
+      not_movk,
+      not_bi,
+      not_beq,
+      not_bne,
+      not_blt,
+      not_bge,
+      not_bk,
+      not_sf,
+      not_cf,
+      not_nf,
+      not_movf,
+      not_andf,
+      not_orf,
+      not_rdw,
+      not_gad,
+      not_wde,
+      not_wds,
+      not_fin,
+      not_wfq,
+      not_popq,
+      not_defer,
+      not_inv,
+      not_stwb,
+      not_blk,
+      not_wake,
+      not_tr,
+      not_ucblk,
+      not_ucdone,
+      not_done,
+      not_memrd,
+      not_memwb,
+      not_memww,
+    ) refl in absurd cc
     ))))))))))))))))))))))))))))))))))))))))))))))))

@@ -6,10 +6,9 @@ use Rattle.bk_base.specs.declared.coh.Coh.{Coh}
 use Rattle.bk_base.specs.declared.coh.Coh.TheVariants.{I, S, E, F, M, O}
 use Rattle.bk_base.specs.States.{code_of}
 use Rattle.bk_isa.specs.declared.table.Allowed.{Allowed}
-use Rattle.bk_isa.specs.Fields.{state}
-use Rattle.bk_isa.specs.Table.{admits, any_state, valid, clean, granted, left, received}
+use Rattle.bk_isa.specs.Table.{state, admits, all_states, valid_states, clean_states, granted_states, left_states, received_states}
 
-pub state-code_of : (x : Coh) → state (code_of x) ≡ x
+pub state-code_of : (z : Coh) → state (code_of z) ≡ z
 state-code_of I = refl
 state-code_of S = refl
 state-code_of E = refl
@@ -28,38 +27,43 @@ code_if_on set v on h =
       | inr e ↦ let off : is_off set v ≡ true = rw (h, e) refl in absurd cc
     ]
 
-pub code_of-any_state : (allowed : Allowed) (v : ℕ) → allowed ≡ any_state → admits allowed v ≡ true → code_of (state v) ≡ v
-code_of-any_state allowed v is h =
-    let admitted : admits any_state v ≡ true = rw is at h in
+pub code_of-all_states : (allowed : Allowed) (v : ℕ) → allowed ≡ all_states → admits allowed v ≡ true → code_of (state v) ≡ v
+code_of-all_states allowed v is h =
+    let admitted : admits all_states v ≡ true = rw is at h in
     let small : v < 32 = ltb-true v 32 (and_parts _ _ admitted).0 in
-    code_if_on any_state v (agree_below_at (is_off any_state) (λ _. false) 32 v refl small) admitted
+    code_if_on all_states v (agree_below_at (is_off all_states) (λ _. false) 32 v refl small) admitted
 
-pub code_of-valid : (allowed : Allowed) (v : ℕ) → allowed ≡ valid → admits allowed v ≡ true → code_of (state v) ≡ v
-code_of-valid allowed v is h =
-    let admitted : admits valid v ≡ true = rw is at h in
+pub code_of-valid_states : (allowed : Allowed) (v : ℕ) → allowed ≡ valid_states → admits allowed v ≡ true
+    → code_of (state v) ≡ v
+code_of-valid_states allowed v is h =
+    let admitted : admits valid_states v ≡ true = rw is at h in
     let small : v < 32 = ltb-true v 32 (and_parts _ _ admitted).0 in
-    code_if_on valid v (agree_below_at (is_off valid) (λ _. false) 32 v refl small) admitted
+    code_if_on valid_states v (agree_below_at (is_off valid_states) (λ _. false) 32 v refl small) admitted
 
-pub code_of-clean : (allowed : Allowed) (v : ℕ) → allowed ≡ clean → admits allowed v ≡ true → code_of (state v) ≡ v
-code_of-clean allowed v is h =
-    let admitted : admits clean v ≡ true = rw is at h in
+pub code_of-clean_states : (allowed : Allowed) (v : ℕ) → allowed ≡ clean_states → admits allowed v ≡ true
+    → code_of (state v) ≡ v
+code_of-clean_states allowed v is h =
+    let admitted : admits clean_states v ≡ true = rw is at h in
     let small : v < 32 = ltb-true v 32 (and_parts _ _ admitted).0 in
-    code_if_on clean v (agree_below_at (is_off clean) (λ _. false) 32 v refl small) admitted
+    code_if_on clean_states v (agree_below_at (is_off clean_states) (λ _. false) 32 v refl small) admitted
 
-pub code_of-granted : (allowed : Allowed) (v : ℕ) → allowed ≡ granted → admits allowed v ≡ true → code_of (state v) ≡ v
-code_of-granted allowed v is h =
-    let admitted : admits granted v ≡ true = rw is at h in
+pub code_of-granted_states : (allowed : Allowed) (v : ℕ) → allowed ≡ granted_states → admits allowed v ≡ true
+    → code_of (state v) ≡ v
+code_of-granted_states allowed v is h =
+    let admitted : admits granted_states v ≡ true = rw is at h in
     let small : v < 32 = ltb-true v 32 (and_parts _ _ admitted).0 in
-    code_if_on granted v (agree_below_at (is_off granted) (λ _. false) 32 v refl small) admitted
+    code_if_on granted_states v (agree_below_at (is_off granted_states) (λ _. false) 32 v refl small) admitted
 
-pub code_of-left : (allowed : Allowed) (v : ℕ) → allowed ≡ left → admits allowed v ≡ true → code_of (state v) ≡ v
-code_of-left allowed v is h =
-    let admitted : admits left v ≡ true = rw is at h in
+pub code_of-left_states : (allowed : Allowed) (v : ℕ) → allowed ≡ left_states → admits allowed v ≡ true
+    → code_of (state v) ≡ v
+code_of-left_states allowed v is h =
+    let admitted : admits left_states v ≡ true = rw is at h in
     let small : v < 32 = ltb-true v 32 (and_parts _ _ admitted).0 in
-    code_if_on left v (agree_below_at (is_off left) (λ _. false) 32 v refl small) admitted
+    code_if_on left_states v (agree_below_at (is_off left_states) (λ _. false) 32 v refl small) admitted
 
-pub code_of-received : (allowed : Allowed) (v : ℕ) → allowed ≡ received → admits allowed v ≡ true → code_of (state v) ≡ v
-code_of-received allowed v is h =
-    let admitted : admits received v ≡ true = rw is at h in
+pub code_of-received_states : (allowed : Allowed) (v : ℕ) → allowed ≡ received_states → admits allowed v ≡ true
+    → code_of (state v) ≡ v
+code_of-received_states allowed v is h =
+    let admitted : admits received_states v ≡ true = rw is at h in
     let small : v < 32 = ltb-true v 32 (and_parts _ _ admitted).0 in
-    code_if_on received v (agree_below_at (is_off received) (λ _. false) 32 v refl small) admitted
+    code_if_on received_states v (agree_below_at (is_off received_states) (λ _. false) 32 v refl small) admitted

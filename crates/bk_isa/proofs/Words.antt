@@ -29,13 +29,15 @@ unpack-pack p h =
 
 pub decode-encode : (f : Form) → IsInRange f → decode (encode f) ≡ Ok f
 decode-encode f h =
-    ap (λ (p : Fields). unless (fault_in p) (form_of p)) (unpack-pack (fields_of f) h.wide) ∙ (ap (λ (o : Option WordFault). unless o (form_of (fields_of f))) h.row ∙ ap (λ (g : Form). unless None g) (form_of-fields_of f))
+    ap (λ (p : Fields). unless (fault_in p) (form_of p)) (unpack-pack (fields_of f) h.wide)
+    ∙ (ap (λ (o : Option WordFault). unless o (form_of (fields_of f))) h.admitted
+    ∙ ap (λ (other : Form). unless None other) (form_of-fields_of f))
 
-same_Ok : (x y : Form) → unless None x ≡ unless None y → x ≡ y
-same_Ok x y e = cc
+same_Ok : (f y : Form) → unless None f ≡ unless None y → f ≡ y
+same_Ok f y e = cc
 
 fields_at : (p : Fields) (o : Option WordFault) (f : Form) → fault_in p ≡ o → Ok f ≡ unless o (form_of p) → fields_of f ≡ p
-fields_at p None f e r = ap (λ (g : Form). fields_of g) (same_Ok _ _ r) ∙ fields_of-form_of p e
+fields_at p None f e r = ap (λ (other : Form). fields_of other) (same_Ok _ _ r) ∙ fields_of-form_of p e
 fields_at p (Some d) f e r = absurd cc
 
 -- what is read has this word

@@ -1,12 +1,11 @@
 -- The fields of an instruction word.
-use Rattle.std.specs.Prelude.{ℕ, ◌+◌, ◌*◌, ◌/◌, ◌%◌, ◌^◌, ◌<◌, ◌==◌, if◌then◌else◌, unwrap_or}
-use Rattle.bk_base.specs.declared.coh.Coh.{Coh}
-use Rattle.bk_base.specs.declared.coh.Coh.TheVariants.{I}
-use Rattle.bk_base.specs.States.{code_of, state_of_code}
+use Rattle.std.specs.Prelude.{ℕ, ◌+◌, ◌*◌, ◌/◌, ◌%◌, ◌^◌, ◌<◌, Option, Some, None}
+use Rattle.bk_base.specs.States.{code_of}
 use Rattle.bk_isa.specs.declared.form.Form.{Form}
 use Rattle.bk_isa.specs.declared.form.Form.TheVariants.{Nop, Add, Sub, And, Or, Xor, Shl, Shr, Addi, Not, Neg, Mov, Movi, Mova, Movs, Movw, Movk, Bi, Beq, Bne, Blt, Bge, Bk, Sf, Cf, Nf, Movf, Andf, Orf, Rdw, Gad, Wde, Wds, Fin, Wfq, Popq, Defer, Inv, Stwb, Blk, Wake, Tr, Ucblk, Ucdone, Done, Memrd, Memwb, Memww}
-use Rattle.bk_isa.specs.Opcodes.{NOP, ADD, SUB, AND, OR, XOR, SHL, SHR, ADDI, NOT, NEG, MOV, MOVI, MOVA, MOVS, MOVW, MOVK, BI, BEQ, BNE, BLT, BGE, BK, SF, CF, NF, MOVF, ANDF, ORF, RDW, GAD, WDE, WDS, FIN, WFQ, POPQ, DEFER, INV, STWB, BLK, WAKE, TR, UCBLK, UCDONE, DONE, MEMRD, MEMWB, MEMWW}
+use Rattle.bk_isa.specs.declared.opcode.TheConstants.{NOP, ADD, SUB, AND, OR, XOR, SHL, SHR, ADDI, NOT, NEG, MOV, MOVI, MOVA, MOVS, MOVW, MOVK, BI, BEQ, BNE, BLT, BGE, BK, SF, CF, NF, MOVF, ANDF, ORF, RDW, GAD, WDE, WDS, FIN, WFQ, POPQ, DEFER, INV, STWB, BLK, WAKE, TR, UCBLK, UCDONE, DONE, MEMRD, MEMWB, MEMWW}
 use Rattle.bk_isa.specs.declared.fields.Fields.{Fields}
+use Rattle.bk_isa.specs.Table.{Meaning, meaning_of}
 
 abbrev pub fields_with : ℕ → ℕ → ℕ → ℕ → ℕ → Fields
 fields_with op a b c imm = record { op = op; a = a; b = b; c = c; imm = imm }
@@ -62,61 +61,13 @@ fields_of Memrd = fields_with MEMRD 0 0 0 0
 fields_of Memwb = fields_with MEMWB 0 0 0 0
 fields_of Memww = fields_with MEMWW 0 0 0 0
 
--- the state with a code, I off the table
-abbrev pub state : ℕ → Coh
-state code = unwrap_or (state_of_code code) I
+abbrev pub form_by : Option Meaning → Fields → Form
+form_by None p = Nop
+form_by (Some m) p = m.form p
 
--- the form of an operation with these operands
+-- the form of an operation with these operands, `nop` where there is no such operation
 abbrev pub form_of : Fields → Form
-form_of p =
-    if p.op == NOP then Nop
-    else if p.op == ADD then Add p.a p.b p.c
-    else if p.op == SUB then Sub p.a p.b p.c
-    else if p.op == AND then And p.a p.b p.c
-    else if p.op == OR then Or p.a p.b p.c
-    else if p.op == XOR then Xor p.a p.b p.c
-    else if p.op == SHL then Shl p.a p.b p.imm
-    else if p.op == SHR then Shr p.a p.b p.imm
-    else if p.op == ADDI then Addi p.a p.b p.imm
-    else if p.op == NOT then Not p.a p.b
-    else if p.op == NEG then Neg p.a p.b
-    else if p.op == MOV then Mov p.a p.b
-    else if p.op == MOVI then Movi p.a p.imm
-    else if p.op == MOVA then Mova p.a
-    else if p.op == MOVS then Movs p.a
-    else if p.op == MOVW then Movw p.a
-    else if p.op == MOVK then Movk p.a
-    else if p.op == BI then Bi p.imm
-    else if p.op == BEQ then Beq p.a p.b p.imm
-    else if p.op == BNE then Bne p.a p.b p.imm
-    else if p.op == BLT then Blt p.a p.b p.imm
-    else if p.op == BGE then Bge p.a p.b p.imm
-    else if p.op == BK then Bk p.a p.b p.imm
-    else if p.op == SF then Sf p.a
-    else if p.op == CF then Cf p.a
-    else if p.op == NF then Nf p.a
-    else if p.op == MOVF then Movf p.a p.b
-    else if p.op == ANDF then Andf p.a p.b
-    else if p.op == ORF then Orf p.a p.b
-    else if p.op == RDW then Rdw
-    else if p.op == GAD then Gad
-    else if p.op == WDE then Wde (state p.a)
-    else if p.op == WDS then Wds p.a (state p.b)
-    else if p.op == FIN then Fin
-    else if p.op == WFQ then Wfq p.a
-    else if p.op == POPQ then Popq p.a
-    else if p.op == DEFER then Defer
-    else if p.op == INV then Inv p.a
-    else if p.op == STWB then Stwb p.a (state p.b)
-    else if p.op == BLK then Blk (state p.a)
-    else if p.op == WAKE then Wake
-    else if p.op == TR then Tr (state p.a) (state p.b)
-    else if p.op == UCBLK then Ucblk
-    else if p.op == UCDONE then Ucdone
-    else if p.op == DONE then Done
-    else if p.op == MEMRD then Memrd
-    else if p.op == MEMWB then Memwb
-    else Memww
+form_of p = form_by (meaning_of p.op p.a) p
 
 -- the word with these fields, and the fields of a word: four bytes and 32 bits, from the top
 abbrev pub pack : Fields → ℕ

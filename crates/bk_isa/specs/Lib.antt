@@ -1,5 +1,4 @@
 pub mod Fields
-pub mod Opcodes
 pub mod Operands
 pub mod Table
 pub mod Words

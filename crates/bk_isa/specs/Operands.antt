@@ -1,4 +1,4 @@
--- The ranges of the operands, form by form.
+-- The ranges of the operands that are numbers, form by form. They follow from `IsInRange`, and spare its users the table.
 use Rattle.std.specs.Prelude.{◌<◌}
 use Rattle.bk_isa.specs.declared.form.Form.{Form}
 use Rattle.bk_isa.specs.declared.form.Form.TheVariants.{Add, Sub, And, Or, Xor, Shl, Shr, Addi, Not, Neg, Mov, Movi, Mova, Movs, Movw, Movk, Bi, Beq, Bne, Blt, Bge, Bk, Sf, Cf, Nf, Movf, Andf, Orf, Wds, Wfq, Popq, Inv, Stwb}

@@ -8,7 +8,7 @@ use Rattle.bk_isa.specs.Table.{fault_in}
 -- each operand is in the range that the table gives it
 pub record IsInRange (f : Form) : Type 0 where
   pub wide : AreWide (fields_of f)
-  pub row : fault_in (fields_of f) ≡ None
+  pub admitted : fault_in (fields_of f) ≡ None
 
 -- the word of an instruction
 abbrev pub encode : Form → ℕ

@@ -1,5 +1,6 @@
 ghost use Rattle.std.specs.Prelude.{◌≡◌};
-ghost use Rattle.bk_isa.specs.Fields.{fields_with, fields_of, form_of, state, pack, unpack};
+ghost use Rattle.bk_isa.specs.Fields.{fields_with, fields_of, form_of, pack, unpack};
+ghost use Rattle.bk_isa.specs.Table.{state};
 
 use crate::form::Form;
 use crate::opcode;
@@ -84,7 +85,8 @@ fn state(code: u8) -> Coh
     Coh::from_code(code).unwrap_or(Coh::I)
 }
 
-/// The form of the fields' operation, where each field is in the range of the table.
+/// The form of the fields' operation, or `nop` where there is no such operation. Its operands are the
+/// fields, in the table's ranges or not.
 pub fn form_of(fields: Fields) -> Form
     ensures { result ≡ form_of fields }
 {
@@ -140,7 +142,8 @@ pub fn form_of(fields: Fields) -> Form
         opcode::DONE => Form::Done,
         opcode::MEMRD => Form::Memrd,
         opcode::MEMWB => Form::Memwb,
-        _ => Form::Memww,
+        opcode::MEMWW => Form::Memww,
+        _ => Form::Nop,
     }
 }
 

@@ -6,6 +6,7 @@ mod fields;
 mod form;
 mod instr;
 mod opcode;
+pub mod operand;
 mod table;
 
 pub use fault::WordFault;

@@ -1,9 +1,13 @@
-ghost use Rattle.std.specs.Prelude.{◌≡◌};
-ghost use Rattle.bk_isa.specs.Table.{admits, fault_at, first_fault, set_limit, allow, row_of, fault_in};
+ghost use Rattle.std.specs.Prelude.{◌≡◌, Some};
+ghost use Rattle.bk_isa.specs.Table.{admits, fault_at, first_fault, set_limit, ranges_in, ranges_of, fault_in};
 
 use crate::fault::WordFault;
 use crate::fields::Fields;
 use crate::opcode;
+use crate::operand::{
+    CLASS_MEMORY, CLASS_REQUESTS, CLASS_RESPONSES, FIELD_HEAD, FIELD_KIND, FIELD_OWN, FIELD_OWNER,
+    WHOSE_OWN, WHOSE_OWNER, WHOSE_VICTIM,
+};
 
 /// Which values a field of an instruction word may have.
 #[derive(Clone, Copy, Debug, PartialEq, Eq)]
@@ -18,7 +22,7 @@ pub enum Allowed {
 
 /// What the fields of a word may be, for one operation.
 #[derive(Clone, Copy, Debug, PartialEq, Eq)]
-pub struct Row {
+pub struct FieldRanges {
     pub a: Allowed,
     pub b: Allowed,
     pub c: Allowed,
@@ -40,40 +44,49 @@ const ANY_NUMBER: Allowed = Allowed::Range {
 };
 /// A place that a branch goes to.
 const TARGET: Allowed = Allowed::Range { from: 0, to: 256 };
-/// No or yes.
+/// No or yes: of `popq` whether it marks the group, of `inv` whether it goes to the owner too.
 const CHOICE: Allowed = Allowed::Range { from: 0, to: 2 };
 /// The requester's own entry or the owner's.
-const WHOSE: Allowed = Allowed::Range { from: 0, to: 2 };
+const WHOSE: Allowed = Allowed::Range {
+    from: WHOSE_OWN as u64,
+    to: WHOSE_OWNER as u64 + 1,
+};
 /// The requester's own entry, the owner's or the victim.
-const HOLDER: Allowed = Allowed::Range { from: 0, to: 3 };
+const HOLDER: Allowed = Allowed::Range {
+    from: WHOSE_OWN as u64,
+    to: WHOSE_VICTIM as u64 + 1,
+};
 /// At least one class of messages.
-const CLASSES: Allowed = Allowed::Range { from: 1, to: 8 };
-/// The know fields that `bk` tests: 2, 3, 4, 6 to 10 and 15 to 18.
+const CLASSES: Allowed = Allowed::Range {
+    from: 1,
+    to: (CLASS_RESPONSES + CLASS_MEMORY + CLASS_REQUESTS) as u64 + 1,
+};
+/// The know fields that `bk` tests, one bit each: `FIELD_HEAD` to `FIELD_F3`.
 const TESTED: Allowed = Allowed::OneOf {
     values: 0b111_1000_0111_1101_1100,
 };
 /// Each state.
-const ANY_STATE: Allowed = Allowed::OneOf {
+const ALL_STATES: Allowed = Allowed::OneOf {
     values: 0b1100_1111,
 };
 /// Each state but I.
-const VALID: Allowed = Allowed::OneOf {
+const VALID_STATES: Allowed = Allowed::OneOf {
     values: 0b1100_1110,
 };
 /// I or S.
-const CLEAN: Allowed = Allowed::OneOf {
+const CLEAN_STATES: Allowed = Allowed::OneOf {
     values: 0b0000_0011,
 };
 /// S, E, F or M.
-const GRANTED: Allowed = Allowed::OneOf {
+const GRANTED_STATES: Allowed = Allowed::OneOf {
     values: 0b0100_1110,
 };
 /// I, S, F or O.
-const LEFT: Allowed = Allowed::OneOf {
+const LEFT_STATES: Allowed = Allowed::OneOf {
     values: 0b1000_1011,
 };
 /// S, F, M or O.
-const RECEIVED: Allowed = Allowed::OneOf {
+const RECEIVED_STATES: Allowed = Allowed::OneOf {
     values: 0b1100_1010,
 };
 
@@ -98,20 +111,20 @@ fn fault_at(allowed: Allowed, number: u8) -> WordFault
     }
 }
 
-fn first_fault(row: Row, fields: Fields) -> Option<WordFault>
-    ensures { result ≡ first_fault row fields }
+fn first_fault(ranges: FieldRanges, fields: Fields) -> Option<WordFault>
+    ensures { result ≡ first_fault ranges fields }
 {
-    if !admits(row.a, fields.a as u32) {
-        return Some(fault_at(row.a, 1));
+    if !admits(ranges.a, fields.a as u32) {
+        return Some(fault_at(ranges.a, 1));
     }
-    if !admits(row.b, fields.b as u32) {
-        return Some(fault_at(row.b, 2));
+    if !admits(ranges.b, fields.b as u32) {
+        return Some(fault_at(ranges.b, 2));
     }
-    if !admits(row.c, fields.c as u32) {
-        return Some(fault_at(row.c, 3));
+    if !admits(ranges.c, fields.c as u32) {
+        return Some(fault_at(ranges.c, 3));
     }
-    if !admits(row.imm, fields.imm) {
-        return Some(fault_at(row.imm, 4));
+    if !admits(ranges.imm, fields.imm) {
+        return Some(fault_at(ranges.imm, 4));
     }
     None
 }
@@ -121,23 +134,23 @@ fn set_limit(field: u8) -> u64
     ensures { result ≡ set_limit field }
 {
     match field {
-        2 => 128,
-        4 | 7 => 32,
-        6 => 64,
+        FIELD_HEAD => 128,
+        FIELD_KIND | FIELD_OWNER => 32,
+        FIELD_OWN => 64,
         _ => 4,
     }
 }
 
-fn allow(a: Allowed, b: Allowed, c: Allowed, imm: Allowed) -> Option<Row>
-    ensures { result ≡ allow a b c imm }
+fn allow(a: Allowed, b: Allowed, c: Allowed, imm: Allowed) -> Option<FieldRanges>
+    ensures { result ≡ Some (record { a = a; b = b; c = c; imm = imm }) }
 {
-    Some(Row { a, b, c, imm })
+    Some(FieldRanges { a, b, c, imm })
 }
 
 /// What the fields may be for an operation, or none where there is no such operation.
 /// The set of `bk` depends on its field `a`.
-fn row_of(op: u8, a: u8) -> Option<Row>
-    ensures { result ≡ row_of op a }
+fn ranges_of(op: u8, a: u8) -> Option<FieldRanges>
+    ensures { result ≡ ranges_of op a }
 {
     match op {
         opcode::NOP => allow(NONE, NONE, NONE, NONE),
@@ -179,17 +192,17 @@ fn row_of(op: u8, a: u8) -> Option<Row>
         opcode::ORF => allow(FLAG, FLAG, NONE, NONE),
         opcode::RDW => allow(NONE, NONE, NONE, NONE),
         opcode::GAD => allow(NONE, NONE, NONE, NONE),
-        opcode::WDE => allow(VALID, NONE, NONE, NONE),
-        opcode::WDS => allow(WHOSE, ANY_STATE, NONE, NONE),
+        opcode::WDE => allow(VALID_STATES, NONE, NONE, NONE),
+        opcode::WDS => allow(WHOSE, ALL_STATES, NONE, NONE),
         opcode::FIN => allow(NONE, NONE, NONE, NONE),
         opcode::WFQ => allow(CLASSES, NONE, NONE, NONE),
         opcode::POPQ => allow(CHOICE, NONE, NONE, NONE),
         opcode::DEFER => allow(NONE, NONE, NONE, NONE),
         opcode::INV => allow(CHOICE, NONE, NONE, NONE),
-        opcode::STWB => allow(HOLDER, CLEAN, NONE, NONE),
-        opcode::BLK => allow(GRANTED, NONE, NONE, NONE),
+        opcode::STWB => allow(HOLDER, CLEAN_STATES, NONE, NONE),
+        opcode::BLK => allow(GRANTED_STATES, NONE, NONE, NONE),
         opcode::WAKE => allow(NONE, NONE, NONE, NONE),
-        opcode::TR => allow(LEFT, RECEIVED, NONE, NONE),
+        opcode::TR => allow(LEFT_STATES, RECEIVED_STATES, NONE, NONE),
         opcode::UCBLK => allow(NONE, NONE, NONE, NONE),
         opcode::UCDONE => allow(NONE, NONE, NONE, NONE),
         opcode::DONE => allow(NONE, NONE, NONE, NONE),
@@ -204,8 +217,8 @@ fn row_of(op: u8, a: u8) -> Option<Row>
 pub fn fault_in(fields: Fields) -> Option<WordFault>
     ensures { result ≡ fault_in fields }
 {
-    match row_of(fields.op, fields.a) {
+    match ranges_of(fields.op, fields.a) {
         None => Some(WordFault::Opcode),
-        Some(row) => first_fault(row, fields),
+        Some(ranges) => first_fault(ranges, fields),
     }
 }

@@ -1,5 +1,5 @@
 ghost use Rattle.std.specs.Prelude.{◌≡◌, ◌<◌, ◌≤◌, ◌↔◌, ◌==◌, IfSome, IsNone, true, false};
-ghost use Rattle.bk_know.specs.Sets.{sets_of, mask_of, field, within, union, any_empty, idle, held, IsKnow};
+ghost use Rattle.bk_know.specs.Sets.{sets_of, mask_of, field, within, union, any_empty, idle_base, held_base, IsKnow};
 
 use crate::sets::{Sets, any_empty, field, within};
 use std::marker::Model;
@@ -9,6 +9,8 @@ const IDLE: u64 = 0xff08_2255_0824_2811;
 /// The mask of `held`.
 const HELD: u64 = 0xff08_225f_ffe7_e814;
 
+/// The weight in a mask of the lowest bit of field stage.
+const STAGE_UNIT: u64 = 1 << 0;
 /// The weight in a mask of the lowest bit of field head.
 const HEAD_UNIT: u64 = 1 << 4;
 /// The weight in a mask of the lowest bit of field gp.
@@ -109,7 +111,7 @@ fn cut(mask: u64) -> Sets
     ensures { result ≡ sets_of mask }
 {
     Sets {
-        stage: (mask % FOUR_VALUES) as u8,
+        stage: (mask / STAGE_UNIT % FOUR_VALUES) as u8,
         head: (mask / HEAD_UNIT % SEVEN_VALUES) as u8,
         gp: (mask / GP_UNIT % TWO_VALUES) as u8,
         kind: (mask / KIND_UNIT % FIVE_VALUES) as u8,
@@ -189,7 +191,7 @@ impl Know {
 /// What is known of an engine that has nothing under way: the first value alone in each field, either value in each
 /// flag.
 pub fn idle() -> Know
-    ensures value { result ≡ idle }
+    ensures value { result ≡ idle_base }
     ensures mask { mask_of result ≡ 0xff08225508242811 }
 {
     Know { mask: IDLE }
@@ -198,7 +200,7 @@ pub fn idle() -> Know
 /// What is known of an engine that has just taken up a request: as `idle`, but the stage is Held, and the request's
 /// kind, own, owner, others and victim may have any value.
 pub fn held() -> Know
-    ensures value { result ≡ held }
+    ensures value { result ≡ held_base }
     ensures mask { mask_of result ≡ 0xff08225fffe7e814 }
 {
     Know { mask: HELD }

@@ -1,10 +1,17 @@
-ghost use Rattle.std.specs.Prelude.{◌≡◌};
-ghost use Rattle.bk_know.specs.Sets.{field, subset, within, union, any_empty, front_empty, back_empty};
+ghost use Rattle.std.specs.Prelude.{◌≡◌, ◌==◌};
+ghost use Rattle.bk_know.specs.Sets.{field, subset, within, union, any_empty};
+
+use crate::fields::{
+    FIELD_ACKS, FIELD_DOWN, FIELD_DREQ, FIELD_F0, FIELD_F1, FIELD_F2, FIELD_GP, FIELD_HEAD,
+    FIELD_KIND, FIELD_MEM, FIELD_OTHERS, FIELD_OWN, FIELD_OWNER, FIELD_STAGE, FIELD_SUMM,
+    FIELD_VICTIM, FIELD_WB,
+};
 
 /// What an engine may be like at a place: for each field the set of its possible values.
 ///
 /// Bit v of a set stands for value v of the field, counted from 0, in the order given at the field; `values` names
-/// them. A set is below 2 to the number of the field's values. The fields are numbered from 1, in the order below.
+/// them. A set is below 2 to the number of the field's values. The fields are numbered from 1, in the order below; `fields`
+/// names the numbers.
 #[derive(Clone, Copy, Debug, PartialEq, Eq)]
 pub struct Sets {
     /// Field 1. What the engine is doing with requests.
@@ -73,23 +80,23 @@ pub fn field(sets: Sets, number: u8) -> u8
     ensures { result ≡ field sets number }
 {
     match number {
-        1 => sets.stage,
-        2 => sets.head,
-        3 => sets.gp,
-        4 => sets.kind,
-        5 => sets.summ,
-        6 => sets.own,
-        7 => sets.owner,
-        8 => sets.others,
-        9 => sets.victim,
-        10 => sets.acks,
-        11 => sets.wb,
-        12 => sets.mem,
-        13 => sets.dreq,
-        14 => sets.down,
-        15 => sets.f0,
-        16 => sets.f1,
-        17 => sets.f2,
+        FIELD_STAGE => sets.stage,
+        FIELD_HEAD => sets.head,
+        FIELD_GP => sets.gp,
+        FIELD_KIND => sets.kind,
+        FIELD_SUMM => sets.summ,
+        FIELD_OWN => sets.own,
+        FIELD_OWNER => sets.owner,
+        FIELD_OTHERS => sets.others,
+        FIELD_VICTIM => sets.victim,
+        FIELD_ACKS => sets.acks,
+        FIELD_WB => sets.wb,
+        FIELD_MEM => sets.mem,
+        FIELD_DREQ => sets.dreq,
+        FIELD_DOWN => sets.down,
+        FIELD_F0 => sets.f0,
+        FIELD_F1 => sets.f1,
+        FIELD_F2 => sets.f2,
         _ => sets.f3,
     }
 }
@@ -125,41 +132,35 @@ pub fn within(a: Sets, b: Sets) -> bool
         && subset(a.f3, b.f3)
 }
 
+/// Whether a set has no value.
+fn is_empty(set: u8) -> bool
+    ensures { result ≡ (set == 0) }
+{
+    set == 0
+}
+
 /// Whether some field has no value, so that no engine is like this.
 pub fn any_empty(s: Sets) -> bool
     ensures { result ≡ any_empty s }
 {
-    front_empty(s) || back_empty(s)
-}
-
-/// Whether some field from stage to victim has no value.
-fn front_empty(s: Sets) -> bool
-    ensures { result ≡ front_empty s }
-{
-    s.stage == 0
-        || s.head == 0
-        || s.gp == 0
-        || s.kind == 0
-        || s.summ == 0
-        || s.own == 0
-        || s.owner == 0
-        || s.others == 0
-        || s.victim == 0
-}
-
-/// Whether some field from acks to f3 has no value.
-fn back_empty(s: Sets) -> bool
-    ensures { result ≡ back_empty s }
-{
-    s.acks == 0
-        || s.wb == 0
-        || s.mem == 0
-        || s.dreq == 0
-        || s.down == 0
-        || s.f0 == 0
-        || s.f1 == 0
-        || s.f2 == 0
-        || s.f3 == 0
+    is_empty(s.stage)
+        || is_empty(s.head)
+        || is_empty(s.gp)
+        || is_empty(s.kind)
+        || is_empty(s.summ)
+        || is_empty(s.own)
+        || is_empty(s.owner)
+        || is_empty(s.others)
+        || is_empty(s.victim)
+        || is_empty(s.acks)
+        || is_empty(s.wb)
+        || is_empty(s.mem)
+        || is_empty(s.dreq)
+        || is_empty(s.down)
+        || is_empty(s.f0)
+        || is_empty(s.f1)
+        || is_empty(s.f2)
+        || is_empty(s.f3)
 }
 
 /// Field by field the values of both.

@@ -1,3 +1,4 @@
+use crate::fields::FIELD_STAGE;
 use crate::values::*;
 use crate::{Know, Sets, held, idle};
 use std::test::Fail;
@@ -50,7 +51,7 @@ fn a_union_has_both_within(rt: HostRuntime) -> Result<(), Fail> {
     assert_eq!(rt; idle().union(held()), either);
     assert!(rt; held().within(either));
     assert!(rt; !either.within(held()));
-    assert_eq!(rt; either.field(1), STAGE_IDLE | STAGE_HELD);
+    assert_eq!(rt; either.field(FIELD_STAGE), STAGE_IDLE | STAGE_HELD);
     assert_eq!(rt; Know::make(0), None);
     Ok(())
 }

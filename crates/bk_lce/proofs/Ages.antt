@@ -57,6 +57,7 @@ pub oldest_of_all : (vs : List WayView) (w : ℕ) → IsOldestBelow vs (length v
 oldest_of_all vs w h = record {
   view = slice_index_or vs w any_view;
   is = slice_get-get_or vs w any_view h.within;
-  greatest = λ i v e. subst (λ (x : WayView). x.age ≤ age_at vs w) (get_or_from_slice_get vs i v any_view e) (h.greatest i (slice_get_within vs i v e));
+  greatest = λ i v e. subst (λ (x : WayView). x.age ≤ age_at vs w) (get_or_from_slice_get vs i v any_view e)
+      (h.greatest i (slice_get_within vs i v e));
   least = λ i v l e. subst (λ (x : WayView). x.age < age_at vs w) (get_or_from_slice_get vs i v any_view e) (h.least i l);
 }

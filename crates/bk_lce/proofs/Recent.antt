@@ -3,7 +3,7 @@ use Rattle.std.proofs.Common.{◌≡◌, ℕ, zero, suc, ◌<◌, ◌≤◌, ◌
 use Rattle.std.proofs.lemmas.Bool.Decides.{nat_tests}
 use Rattle.bk_base.specs.Counting.{join_below}
 use Rattle.bk_lce.specs.CacheState.{ways_in_order, to_front}
-use Rattle.bk_lce.specs.Kept.{has}
+use Rattle.bk_lce.specs.Lists.{has}
 
 -- another way stays in the list
 pub has-without : (w v : ℕ) (xs : List ℕ) → v ≢ w → has xs v ≡ true → has (filter (λ u. not (u == w)) xs) v ≡ true

@@ -7,7 +7,7 @@ use Rattle.std.proofs.Math.ListN.{get_or-eq_default, length-replicate}
 use Rattle.arrayvec.specs.ArrayVec.{ArrayVec}
 use Rattle.bk_base.specs.Places.{Shape, is_small_count}
 use Rattle.bk_lce.specs.CacheState.{empty_line, ways_in_order}
-use Rattle.bk_lce.specs.Kept.{place_of, lines_of, recency_of, AreOpening, AreOrdered, AreComplete}
+use Rattle.bk_lce.specs.Lists.{place_of, lines_of, recency_of, AreOpening, AreOrdered, AreComplete}
 use Rattle.bk_lce.proofs.Recent.{has-in_order}
 
 -- a count from 1 to 8
@@ -36,12 +36,14 @@ ordered_at ways [] usual (suc i) h = refl
 ordered_at ways (x ∷ xs) usual zero h = h
 ordered_at ways (x ∷ xs) usual (suc i) h = ordered_at ways xs usual i h
 
-pub ordered_push : (ways : ℕ) (xs : List (ArrayVec ℕ)) (new : ArrayVec ℕ) → AreOrdered ways xs → new.items ≡ ways_in_order ways → AreOrdered ways (xs ++ new ∷ [])
+pub ordered_push : (ways : ℕ) (xs : List (ArrayVec ℕ)) (new : ArrayVec ℕ) → AreOrdered ways xs → new.items ≡ ways_in_order ways
+    → AreOrdered ways (xs ++ new ∷ [])
 unfolding recency_of
 ordered_push ways xs new h e s =
     let usual : ArrayVec ℕ = record { items = ways_in_order ways } in
     let same : new ≡ usual = ap (λ (vs : List ℕ). record { items = vs }) e in
-    subst (λ (v : ArrayVec ℕ). (slice_index_or (xs ++ v ∷ []) s usual).items ≡ ways_in_order ways) (sym same) (ordered_at ways xs usual s (h s))
+    subst (λ (v : ArrayVec ℕ). (slice_index_or (xs ++ v ∷ []) s usual).items ≡ ways_in_order ways) (sym same)
+    (ordered_at ways xs usual s (h s))
 
 pub ordered_none : (ways : ℕ) → AreOrdered ways []
 unfolding recency_of

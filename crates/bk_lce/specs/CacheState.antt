@@ -31,19 +31,19 @@ holds line tag = is_readable line.state && line.tag == tag
 
 -- the line at a way of an address's set
 abbrev pub line_at : Shape → CacheState → ℕ → ℕ → Line
-line_at k n addr w = n.lines (group_of k addr) w
+line_at k cache addr w = cache.lines (group_of k addr) w
 
 -- the least way that holds the block of an address
 abbrev pub found : Shape → CacheState → ℕ → Option ℕ
-found k n addr = least_below k.ways (λ w. holds (line_at k n addr w) (tag_at k addr))
+found k cache addr = least_below k.ways (λ w. holds (line_at k cache addr w) (tag_at k addr))
 
 -- one line written, and all else as it was
 abbrev pub with_line : CacheState → ℕ → ℕ → Line → CacheState
-with_line n s w line = record n { lines = put n.lines s (put (n.lines s) w line) }
+with_line cache set w line = record cache { lines = put cache.lines set (put (cache.lines set) w line) }
 
 -- a way becomes the most recently used of its set
 abbrev pub to_front : ℕ → List ℕ → List ℕ
 to_front w ways = w ∷ filter (λ v. not (v == w)) ways
 
 abbrev pub used : CacheState → ℕ → ℕ → CacheState
-used n s w = record n { recency = put n.recency s (to_front w (n.recency s)) }
+used cache set w = record cache { recency = put cache.recency set (to_front w (cache.recency set)) }

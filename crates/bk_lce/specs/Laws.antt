@@ -7,9 +7,8 @@ use Rattle.bk_base.specs.declared.op.Op.{Op}
 use Rattle.bk_msg.specs.declared.row.Row.{Row}
 use Rattle.bk_msg.specs.Networks.{address_of as about}
 use Rattle.bk_lce.specs.declared.line.Line.{Line}
-use Rattle.bk_lce.specs.Asked.{address_of}
+use Rattle.bk_lce.specs.CacheTable.{address_of, Transition, issue, command, fill}
 use Rattle.bk_lce.specs.CacheState.{CacheState}
-use Rattle.bk_lce.specs.CacheTable.{Taken, issue, command, fill}
 
 -- a line was written at once: it was the sole copy of its block, and now memory is behind it
 pub record IsWrittenAtOnce (old new : Line) : Type 0 where
@@ -19,23 +18,24 @@ pub record IsWrittenAtOnce (old new : Line) : Type 0 where
 
 -- An operation that is given writes no line in S, F or O: where a line changes, it was in E or M.
 abbrev pub StoresSoleCopies : Type 0
-StoresSoleCopies = (k : Shape) (n : CacheState) (c way : ℕ) (op : Op) (t : Taken) → issue k n c op way ≡ Some t
-    → (s w : ℕ) → t.state.lines s w ≢ n.lines s w → IsWrittenAtOnce (n.lines s w) (t.state.lines s w)
+StoresSoleCopies = (k : Shape) (cache : CacheState) (c way : ℕ) (op : Op) (t : Transition) → issue k cache c op way ≡ Some t
+    → (set w : ℕ) → t.state.lines set w ≢ cache.lines set w → IsWrittenAtOnce (cache.lines set w) (t.state.lines set w)
 
 -- a set is as it was
-pub record IsAsItWas (old new : CacheState) (s : ℕ) : Type 0 where
-  pub lines : (w : ℕ) → new.lines s w ≡ old.lines s w
-  pub recency : new.recency s ≡ old.recency s
+pub record IsAsItWas (old new : CacheState) (set : ℕ) : Type 0 where
+  pub lines : (w : ℕ) → new.lines set w ≡ old.lines set w
+  pub recency : new.recency set ≡ old.recency set
 
 -- all sets but one are as they were
-abbrev pub KeepsOthers : ℕ → CacheState → Taken → Type 0
-KeepsOthers set old t = (s : ℕ) → s ≢ set → IsAsItWas old t.state s
+abbrev pub KeepsOthers : ℕ → CacheState → Transition → Type 0
+KeepsOthers set old t = (set_number : ℕ) → set_number ≢ set → IsAsItWas old t.state set_number
 
 -- An operation, and a message, changes at most the set of the block that it is about.
 abbrev pub TouchesOneSet : Type 0
-TouchesOneSet = (k : Shape) (n : CacheState) (c : ℕ)
+TouchesOneSet = (k : Shape) (cache : CacheState) (c : ℕ)
     → record {
-      given : (op : Op) (way : ℕ) (t : Taken) → issue k n c op way ≡ Some t → KeepsOthers (group_of k (address_of op)) n t;
-      commanded : (m : Row) (t : Taken) → command k n c m ≡ Some t → KeepsOthers (group_of k (about m)) n t;
-      filled : (m : Row) (t : Taken) → fill k n c m ≡ Some t → KeepsOthers (group_of k (about m)) n t;
+      given : (op : Op) (way : ℕ) (t : Transition) → issue k cache c op way ≡ Some t
+          → KeepsOthers (group_of k (address_of op)) cache t;
+      commanded : (m : Row) (t : Transition) → command k cache c m ≡ Some t → KeepsOthers (group_of k (about m)) cache t;
+      filled : (m : Row) (t : Transition) → fill k cache c m ≡ Some t → KeepsOthers (group_of k (about m)) cache t;
     }

@@ -1,8 +1,7 @@
-pub mod Asked
-pub mod Caches
+pub mod CacheArrays
 pub mod CacheState
 pub mod CacheTable
-pub mod Calls
-pub mod Kept
+pub mod HasRow
 pub mod Laws
+pub mod Lists
 pub mod Policies

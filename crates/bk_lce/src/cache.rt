@@ -1,15 +1,13 @@
 ghost use Rattle.std.specs.Prelude.{◌≡◌, ◌<◌, IfOk, is_some};
 ghost use Rattle.std.specs.Fn.{FnReturnsAt};
 ghost use Rattle.bk_msg.specs.Within.{IsWithin};
-ghost use Rattle.bk_lce.specs.Asked.{IsPolicy, IssuedBy, address_of};
+ghost use Rattle.bk_lce.specs.Policies.{IsPolicy, IssuedBy, views};
+ghost use Rattle.bk_lce.specs.CacheTable.{address_of, Gives, issue, command, fill, has_row, SendsWithin, CompletesOwn};
 ghost use Rattle.bk_lce.specs.CacheState.{opening};
-ghost use Rattle.bk_lce.specs.CacheTable.{Gives, issue, command, fill, has_row};
-ghost use Rattle.bk_lce.specs.Caches.{state_of};
-ghost use Rattle.bk_lce.specs.Calls.{SendsWithin, CompletesOwn};
-ghost use Rattle.bk_lce.specs.Policies.{views};
+ghost use Rattle.bk_lce.specs.CacheArrays.{state_of};
 
-use crate::arrays::CacheArrays;
-use crate::line::{Busy, Foreign, Line, Step, WayView};
+use crate::cache_arrays::CacheArrays;
+use crate::line::{Busy, CacheStep, Foreign, Line, WayView};
 use crate::policy::Victim;
 use bk_base::{Addr, Config, Op, group_of};
 use bk_msg::Message;
@@ -65,9 +63,10 @@ impl<F: Fn(&[WayView]) -> u8 + Copy + Send> Cache<F> {
 
     /// Gives the cache an operation, with the way that the stored policy answers to the views of the address's set.
     /// An error is `Busy`: an operation is in progress, and nothing has changed.
-    pub fn issue(&mut self, op: Op) -> Result<Step, Busy>
+    pub fn issue(&mut self, op: Op) -> Result<CacheStep, Busy>
         requires { IsPolicy F.Fn self.old.victim.pick }
-        ensures gives { IssuedBy (FnReturnsAt F.Fn self.old.victim.pick) self.old.arrays.config self.old.arrays.number op (state_of self.old.arrays) (state_of self.new.arrays) result }
+        ensures gives { IssuedBy (FnReturnsAt F.Fn self.old.victim.pick) self.old.arrays.config self.old.arrays.number op
+            (state_of self.old.arrays) (state_of self.new.arrays) result }
         ensures within { IfOk result (SendsWithin self.old.arrays.config) }
         ensures own { IfOk result (CompletesOwn self.old.arrays.number) }
         ensures config { self.new.arrays.config ≡ self.old.arrays.config }
@@ -81,9 +80,10 @@ impl<F: Fn(&[WayView]) -> u8 + Copy + Send> Cache<F> {
 
     /// Gives the cache an operation, with the way of the victim for a Load or Store of a block that isn't there.
     /// An error is `Busy`: an operation is in progress, and nothing has changed.
-    pub fn issue_at(&mut self, op: Op, way: u8) -> Result<Step, Busy>
+    pub fn issue_at(&mut self, op: Op, way: u8) -> Result<CacheStep, Busy>
         requires { way < self.old.arrays.config.ways }
-        ensures gives { Gives (issue self.old.arrays.config (state_of self.old.arrays) self.old.arrays.number op way) (state_of self.old.arrays) (state_of self.new.arrays) result }
+        ensures gives { Gives (issue self.old.arrays.config (state_of self.old.arrays) self.old.arrays.number op way)
+            (state_of self.old.arrays) (state_of self.new.arrays) result }
         ensures within { IfOk result (SendsWithin self.old.arrays.config) }
         ensures own { IfOk result (CompletesOwn self.old.arrays.number) }
         ensures config { self.new.arrays.config ≡ self.old.arrays.config }
@@ -95,9 +95,10 @@ impl<F: Fn(&[WayView]) -> u8 + Copy + Send> Cache<F> {
 
     /// Hands the cache a message of the command network. An error is `Foreign`: there is no row for the message,
     /// and nothing has changed.
-    pub fn command(&mut self, message: &Message) -> Result<Step, Foreign>
+    pub fn command(&mut self, message: &Message) -> Result<CacheStep, Foreign>
         requires { IsWithin self.old.arrays.config message.now }
-        ensures gives { Gives (command self.old.arrays.config (state_of self.old.arrays) self.old.arrays.number message.now) (state_of self.old.arrays) (state_of self.new.arrays) result }
+        ensures gives { Gives (command self.old.arrays.config (state_of self.old.arrays) self.old.arrays.number message.now)
+            (state_of self.old.arrays) (state_of self.new.arrays) result }
         ensures within { IfOk result (SendsWithin self.old.arrays.config) }
         ensures own { IfOk result (CompletesOwn self.old.arrays.number) }
         ensures config { self.new.arrays.config ≡ self.old.arrays.config }
@@ -109,9 +110,10 @@ impl<F: Fn(&[WayView]) -> u8 + Copy + Send> Cache<F> {
 
     /// Hands the cache a message of the fill network. An error is `Foreign`: there is no row for the message,
     /// and nothing has changed.
-    pub fn fill(&mut self, message: &Message) -> Result<Step, Foreign>
+    pub fn fill(&mut self, message: &Message) -> Result<CacheStep, Foreign>
         requires { IsWithin self.old.arrays.config message.now }
-        ensures gives { Gives (fill self.old.arrays.config (state_of self.old.arrays) self.old.arrays.number message.now) (state_of self.old.arrays) (state_of self.new.arrays) result }
+        ensures gives { Gives (fill self.old.arrays.config (state_of self.old.arrays) self.old.arrays.number message.now)
+            (state_of self.old.arrays) (state_of self.new.arrays) result }
         ensures within { IfOk result (SendsWithin self.old.arrays.config) }
         ensures own { IfOk result (CompletesOwn self.old.arrays.number) }
         ensures config { self.new.arrays.config ≡ self.old.arrays.config }

@@ -3,19 +3,18 @@ ghost use Rattle.bk_base.specs.Places.{tag_at};
 ghost use Rattle.bk_msg.specs.declared.table.States.TheVariants.{Received};
 ghost use Rattle.bk_msg.specs.Table.{holds as suits};
 ghost use Rattle.bk_lce.specs.CacheState.{with_line};
-ghost use Rattle.bk_lce.specs.CacheTable.{Gives, answers, wiped, invalidated, lowered, flush_answer, flush_row, transfer_row};
-ghost use Rattle.bk_lce.specs.Caches.{state_of};
-ghost use Rattle.bk_lce.specs.Calls.{Takes};
+ghost use Rattle.bk_lce.specs.CacheTable.{Gives, answer_row, wiped_line, with_invalid_block, with_line_state, flush_answer, flush_row, transfer_row, Takes};
+ghost use Rattle.bk_lce.specs.CacheArrays.{state_of};
 
-use crate::arrays::CacheArrays;
-use crate::line::{Foreign, Line, Step};
-use crate::places::holds;
+use crate::cache_arrays::CacheArrays;
+use crate::line::{CacheStep, Foreign, Line};
+use crate::lines::holds;
 use bk_base::{Addr, Coh, group_of, tag_at};
 use bk_msg::Message;
 
 /// A line in `I` where it holds the block with a tag.
-fn wiped(tag: u64, line: Line) -> Line
-    ensures { result ≡ wiped tag line }
+fn wiped_line(tag: u64, line: Line) -> Line
+    ensures { result ≡ wiped_line tag line }
 {
     if holds(&line, tag) {
         Line {
@@ -29,10 +28,10 @@ fn wiped(tag: u64, line: Line) -> Line
 
 impl CacheArrays {
     /// Answers a message, and completes nothing.
-    pub(crate) fn answers(&self, message: Message) -> Step
-        ensures { Takes (answers (state_of self.now) message) (state_of self.now) result }
+    pub(crate) fn answer_row(&self, message: Message) -> CacheStep
+        ensures { Takes (answer_row (state_of self.now) message) (state_of self.now) result }
     {
-        Step {
+        CacheStep {
             sent: Some(message),
             done: None,
             way: 0,
@@ -40,21 +39,21 @@ impl CacheArrays {
     }
 
     /// Drops the line at a way where it holds the block with a tag.
-    #[tactic(auto, using(crate::proofs::Written::lines_read), unfolding(crate::specs::Caches::state_of))]
+    #[tactic(auto, using(crate::proofs::Written::lines_read), unfolding(crate::specs::CacheArrays::state_of))]
     fn wipe(&mut self, set: u8, way: u8, tag: u64)
         requires set { set < self.old.config.sets }
         requires way { way < 8 }
-        ensures state { state_of self.new ≡ with_line (state_of self.old) set way (wiped tag ((state_of self.old).lines set way)) }
+        ensures state { state_of self.new ≡ with_line (state_of self.old) set way (wiped_line tag ((state_of self.old).lines set way)) }
         ensures config { self.new.config ≡ self.old.config }
         ensures number { self.new.number ≡ self.old.number }
     {
         let line = self.lines[set as usize * 8 + way as usize];
-        self.write_line(set, way, wiped(tag, line));
+        self.write_line(set, way, wiped_line(tag, line));
     }
 
     /// Drops each line that holds the block of an address.
     pub(crate) fn invalidate(&mut self, addr: Addr)
-        ensures state { state_of self.new ≡ invalidated self.old.config (state_of self.old) addr }
+        ensures state { state_of self.new ≡ with_invalid_block self.old.config (state_of self.old) addr }
         ensures config { self.new.config ≡ self.old.config }
         ensures number { self.new.number ≡ self.old.number }
     {
@@ -68,7 +67,7 @@ impl CacheArrays {
     /// Sets the state of the line at a way of an address's set.
     fn lower(&mut self, addr: Addr, way: u8, state: Coh)
         requires { way < self.old.config.ways }
-        ensures state { state_of self.new ≡ lowered self.old.config (state_of self.old) addr way state }
+        ensures state { state_of self.new ≡ with_line_state self.old.config (state_of self.old) addr way state }
         ensures config { self.new.config ≡ self.old.config }
         ensures number { self.new.number ≡ self.old.number }
     {
@@ -93,9 +92,10 @@ impl CacheArrays {
         addr: Addr,
         state: Coh,
         at: Option<u8>,
-    ) -> Result<Step, Foreign>
+    ) -> Result<CacheStep, Foreign>
         requires { IfSome at (λ w. w < self.old.config.ways) }
-        ensures gives { Gives (flush_row self.old.config (state_of self.old) self.old.number addr state at) (state_of self.old) (state_of self.new) result }
+        ensures gives { Gives (flush_row self.old.config (state_of self.old) self.old.number addr state at) (state_of self.old)
+            (state_of self.new) result }
         ensures config { self.new.config ≡ self.old.config }
         ensures number { self.new.number ≡ self.old.number }
     {
@@ -104,7 +104,7 @@ impl CacheArrays {
             Some(at) => {
                 let answer = self.flush_answer(addr, self.line_at(addr, at));
                 self.lower(addr, at, state);
-                Ok(self.answers(answer))
+                Ok(self.answer_row(answer))
             }
         }
     }
@@ -118,12 +118,13 @@ impl CacheArrays {
         peer_way: u8,
         peer_state: Coh,
         at: Option<u8>,
-    ) -> Result<Step, Foreign>
+    ) -> Result<CacheStep, Foreign>
         requires peer { peer < self.old.config.caches }
         requires peer_way { peer_way < self.old.config.ways }
         requires peer_state { suits Received peer_state ≡ true }
         requires at { IfSome at (λ w. w < self.old.config.ways) }
-        ensures gives { Gives (transfer_row self.old.config (state_of self.old) self.old.number addr state peer peer_way peer_state at) (state_of self.old) (state_of self.new) result }
+        ensures gives { Gives (transfer_row self.old.config (state_of self.old) self.old.number addr state peer peer_way peer_state at)
+            (state_of self.old) (state_of self.new) result }
         ensures config { self.new.config ≡ self.old.config }
         ensures number { self.new.number ≡ self.old.number }
     {
@@ -135,7 +136,7 @@ impl CacheArrays {
                 }
                 let words = self.line_at(addr, at).words;
                 self.lower(addr, at, state);
-                Ok(self.answers(Message::fill(
+                Ok(self.answer_row(Message::fill(
                     self.number,
                     peer,
                     peer_way,

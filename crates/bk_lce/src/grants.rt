@@ -1,25 +1,24 @@
 ghost use Rattle.std.specs.Prelude.{◌≡◌, ◌<◌, ℕ, List, Option, is_some};
-ghost use Rattle.bk_lce.specs.CacheTable.{Gives, completes, fills, grant_row, granted, wake_row, woken, word_row, written_row, evicted_row, ends};
-ghost use Rattle.bk_lce.specs.Caches.{state_of};
-ghost use Rattle.bk_lce.specs.Calls.{Takes};
+ghost use Rattle.bk_lce.specs.CacheTable.{Gives, completion_row, filled_row, grant_row, grant_for, wake_row, wake_for, word_row, written_row, evicted_row, by_operation, Takes};
+ghost use Rattle.bk_lce.specs.CacheArrays.{state_of};
 
-use crate::arrays::CacheArrays;
-use crate::issue::stored;
-use crate::line::{Foreign, InProgress, Line, Step};
-use crate::places::holds;
+use crate::cache_arrays::CacheArrays;
+use crate::issue::stored_line;
+use crate::line::{CacheStep, Foreign, InProgress, Line};
+use crate::lines::holds;
 use bk_base::{Addr, Coh, Done, Op, block_of, group_of, tag_at, word_of};
 use bk_msg::Message;
 
 impl CacheArrays {
     /// Completes the operation in progress, and settles its request.
-    #[tactic(auto, unfolding(crate::specs::Caches::state_of))]
-    fn completes(&mut self, op: Op, addr: Addr, answer: u64, way: u8) -> Step
-        ensures gives { Takes (completes (state_of self.old) self.old.number op addr answer way) (state_of self.new) result }
+    #[tactic(auto, unfolding(crate::specs::CacheArrays::state_of))]
+    fn completion_row(&mut self, op: Op, addr: Addr, answer: u64, way: u8) -> CacheStep
+        ensures gives { Takes (completion_row (state_of self.old) self.old.number op addr answer way) (state_of self.new) result }
         ensures config { self.new.config ≡ self.old.config }
         ensures number { self.new.number ≡ self.old.number }
     {
         self.busy = None;
-        Step {
+        CacheStep {
             sent: Some(Message::coh_ack(self.number, addr)),
             done: Some(Done {
                 cache: self.number,
@@ -31,16 +30,17 @@ impl CacheArrays {
     }
 
     /// Writes a line, makes its way the most recently used, and completes the operation in progress.
-    fn fills(&mut self, op: Op, addr: Addr, answer: u64, way: u8, line: Line) -> Step
+    fn filled_row(&mut self, op: Op, addr: Addr, answer: u64, way: u8, line: Line) -> CacheStep
         requires { way < self.old.config.ways }
-        ensures gives { Takes (fills self.old.config (state_of self.old) self.old.number op addr answer way line) (state_of self.new) result }
+        ensures gives { Takes (filled_row self.old.config (state_of self.old) self.old.number op addr answer way line)
+            (state_of self.new) result }
         ensures config { self.new.config ≡ self.old.config }
         ensures number { self.new.number ≡ self.old.number }
     {
         let set = group_of(self.config, addr);
         self.write_line(set, way, line);
         self.use_way(set, way);
-        self.completes(op, addr, answer, way)
+        self.completion_row(op, addr, answer, way)
     }
 
     /// `Blk` or `Fill` at the way of the operation in progress: the block is placed.
@@ -51,9 +51,10 @@ impl CacheArrays {
         addr: Addr,
         words: [u64; 8],
         op: Op,
-    ) -> Result<Step, Foreign>
+    ) -> Result<CacheStep, Foreign>
         requires { way < self.old.config.ways }
-        ensures gives { Gives (grant_row self.old.config (state_of self.old) self.old.number way state addr words op) (state_of self.old) (state_of self.new) result }
+        ensures gives { Gives (grant_row self.old.config (state_of self.old) self.old.number way state addr words op) (state_of self.old)
+            (state_of self.new) result }
         ensures config { self.new.config ≡ self.old.config }
         ensures number { self.new.number ≡ self.old.number }
     {
@@ -64,31 +65,32 @@ impl CacheArrays {
                 }
                 let tag = tag_at(self.config, at);
                 let answer = words[word_of(at) as usize];
-                Ok(self.fills(op, at, answer, way, Line { tag, state, words }))
+                Ok(self.filled_row(op, at, answer, way, Line { tag, state, words }))
             }
             Op::Store(at, value) => {
                 if block_of(at) != block_of(addr) || !state.writable() {
                     return Err(Foreign);
                 }
                 let tag = tag_at(self.config, at);
-                let line = stored(Line { tag, state, words }, at, value);
-                Ok(self.fills(op, at, 0, way, line))
+                let line = stored_line(Line { tag, state, words }, at, value);
+                Ok(self.filled_row(op, at, 0, way, line))
             }
             _ => Err(Foreign),
         }
     }
 
     /// `Blk` or `Fill`.
-    pub(crate) fn granted(
+    pub(crate) fn grant_for(
         &mut self,
         way: u8,
         state: Coh,
         addr: Addr,
         words: [u64; 8],
         busy: Option<InProgress>,
-    ) -> Result<Step, Foreign>
+    ) -> Result<CacheStep, Foreign>
         requires { way < self.old.config.ways }
-        ensures gives { Gives (granted self.old.config (state_of self.old) self.old.number way state addr words busy) (state_of self.old) (state_of self.new) result }
+        ensures gives { Gives (grant_for self.old.config (state_of self.old) self.old.number way state addr words busy) (state_of self.old)
+            (state_of self.new) result }
         ensures config { self.new.config ≡ self.old.config }
         ensures number { self.new.number ≡ self.old.number }
     {
@@ -105,9 +107,10 @@ impl CacheArrays {
     }
 
     /// `StWake` at the way of the operation in progress: the word is stored into the copy that stands there.
-    fn wake_row(&mut self, way: u8, addr: Addr, op: Op) -> Result<Step, Foreign>
+    fn wake_row(&mut self, way: u8, addr: Addr, op: Op) -> Result<CacheStep, Foreign>
         requires { way < self.old.config.ways }
-        ensures gives { Gives (wake_row self.old.config (state_of self.old) self.old.number way addr op) (state_of self.old) (state_of self.new) result }
+        ensures gives { Gives (wake_row self.old.config (state_of self.old) self.old.number way addr op) (state_of self.old)
+            (state_of self.new) result }
         ensures config { self.new.config ≡ self.old.config }
         ensures number { self.new.number ≡ self.old.number }
     {
@@ -117,21 +120,22 @@ impl CacheArrays {
                 if block_of(at) != block_of(addr) || !holds(&line, tag_at(self.config, at)) {
                     return Err(Foreign);
                 }
-                Ok(self.fills(op, at, 0, way, stored(line, at, value)))
+                Ok(self.filled_row(op, at, 0, way, stored_line(line, at, value)))
             }
             _ => Err(Foreign),
         }
     }
 
     /// `StWake`.
-    pub(crate) fn woken(
+    pub(crate) fn wake_for(
         &mut self,
         way: u8,
         addr: Addr,
         busy: Option<InProgress>,
-    ) -> Result<Step, Foreign>
+    ) -> Result<CacheStep, Foreign>
         requires { way < self.old.config.ways }
-        ensures gives { Gives (woken self.old.config (state_of self.old) self.old.number way addr busy) (state_of self.old) (state_of self.new) result }
+        ensures gives { Gives (wake_for self.old.config (state_of self.old) self.old.number way addr busy) (state_of self.old)
+            (state_of self.new) result }
         ensures config { self.new.config ≡ self.old.config }
         ensures number { self.new.number ≡ self.old.number }
     {
@@ -148,15 +152,16 @@ impl CacheArrays {
     }
 
     /// `UcBlk`, for an operation in progress.
-    fn word_row(&mut self, way: u8, addr: Addr, word: u64, op: Op) -> Result<Step, Foreign>
-        ensures gives { Gives (word_row (state_of self.old) self.old.number way addr word op) (state_of self.old) (state_of self.new) result }
+    fn word_row(&mut self, way: u8, addr: Addr, word: u64, op: Op) -> Result<CacheStep, Foreign>
+        ensures gives { Gives (word_row (state_of self.old) self.old.number way addr word op) (state_of self.old)
+            (state_of self.new) result }
         ensures config { self.new.config ≡ self.old.config }
         ensures number { self.new.number ≡ self.old.number }
     {
         match op {
             Op::UcLoad(at) => {
                 if at.value() == addr.value() {
-                    Ok(self.completes(op, at, word, way))
+                    Ok(self.completion_row(op, at, word, way))
                 } else {
                     Err(Foreign)
                 }
@@ -166,7 +171,7 @@ impl CacheArrays {
     }
 
     /// `UcDone`, for an operation in progress.
-    fn written_row(&mut self, way: u8, addr: Addr, op: Op) -> Result<Step, Foreign>
+    fn written_row(&mut self, way: u8, addr: Addr, op: Op) -> Result<CacheStep, Foreign>
         ensures gives { Gives (written_row (state_of self.old) self.old.number way addr op) (state_of self.old) (state_of self.new) result }
         ensures config { self.new.config ≡ self.old.config }
         ensures number { self.new.number ≡ self.old.number }
@@ -174,7 +179,7 @@ impl CacheArrays {
         match op {
             Op::UcStore(at, _) => {
                 if at.value() == addr.value() {
-                    Ok(self.completes(op, at, 0, way))
+                    Ok(self.completion_row(op, at, 0, way))
                 } else {
                     Err(Foreign)
                 }
@@ -184,7 +189,7 @@ impl CacheArrays {
     }
 
     /// `Done`, for an operation in progress.
-    fn evicted_row(&mut self, way: u8, addr: Addr, op: Op) -> Result<Step, Foreign>
+    fn evicted_row(&mut self, way: u8, addr: Addr, op: Op) -> Result<CacheStep, Foreign>
         ensures gives { Gives (evicted_row (state_of self.old) self.old.number way addr op) (state_of self.old) (state_of self.new) result }
         ensures config { self.new.config ≡ self.old.config }
         ensures number { self.new.number ≡ self.old.number }
@@ -192,7 +197,7 @@ impl CacheArrays {
         match op {
             Op::Evict(at) => {
                 if block_of(at) == block_of(addr) {
-                    Ok(self.completes(op, at, 0, way))
+                    Ok(self.completion_row(op, at, 0, way))
                 } else {
                     Err(Foreign)
                 }
@@ -207,8 +212,9 @@ impl CacheArrays {
         addr: Addr,
         word: u64,
         busy: Option<InProgress>,
-    ) -> Result<Step, Foreign>
-        ensures gives { Gives (ends busy (λ way op. word_row (state_of self.old) self.old.number way addr word op)) (state_of self.old) (state_of self.new) result }
+    ) -> Result<CacheStep, Foreign>
+        ensures gives { Gives (by_operation busy (λ way op. word_row (state_of self.old) self.old.number way addr word op))
+            (state_of self.old) (state_of self.new) result }
         ensures config { self.new.config ≡ self.old.config }
         ensures number { self.new.number ≡ self.old.number }
     {
@@ -223,8 +229,9 @@ impl CacheArrays {
         &mut self,
         addr: Addr,
         busy: Option<InProgress>,
-    ) -> Result<Step, Foreign>
-        ensures gives { Gives (ends busy (λ way op. written_row (state_of self.old) self.old.number way addr op)) (state_of self.old) (state_of self.new) result }
+    ) -> Result<CacheStep, Foreign>
+        ensures gives { Gives (by_operation busy (λ way op. written_row (state_of self.old) self.old.number way addr op))
+            (state_of self.old) (state_of self.new) result }
         ensures config { self.new.config ≡ self.old.config }
         ensures number { self.new.number ≡ self.old.number }
     {
@@ -239,8 +246,9 @@ impl CacheArrays {
         &mut self,
         addr: Addr,
         busy: Option<InProgress>,
-    ) -> Result<Step, Foreign>
-        ensures gives { Gives (ends busy (λ way op. evicted_row (state_of self.old) self.old.number way addr op)) (state_of self.old) (state_of self.new) result }
+    ) -> Result<CacheStep, Foreign>
+        ensures gives { Gives (by_operation busy (λ way op. evicted_row (state_of self.old) self.old.number way addr op))
+            (state_of self.old) (state_of self.new) result }
         ensures config { self.new.config ≡ self.old.config }
         ensures number { self.new.number ≡ self.old.number }
     {

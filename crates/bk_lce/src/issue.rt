@@ -1,17 +1,16 @@
 ghost use Rattle.std.specs.Prelude.{◌≡◌, ◌<◌, IfSome, Some, None};
 ghost use Rattle.bk_lce.specs.CacheState.{found};
-ghost use Rattle.bk_lce.specs.CacheTable.{asks, hits, stored, load_row, store_hit, store_row, evict_row, issue_row};
-ghost use Rattle.bk_lce.specs.Caches.{state_of};
-ghost use Rattle.bk_lce.specs.Calls.{Takes};
+ghost use Rattle.bk_lce.specs.CacheTable.{request_row, hit_row, stored_line, load_row, store_hit, store_row, evict_row, issue_row, Takes};
+ghost use Rattle.bk_lce.specs.CacheArrays.{state_of};
 
-use crate::arrays::CacheArrays;
-use crate::line::{InProgress, Line, Step};
+use crate::cache_arrays::CacheArrays;
+use crate::line::{CacheStep, InProgress, Line};
 use bk_base::{Addr, Coh, Done, Op, group_of, word_of};
 use bk_msg::Message;
 
 /// A line after a store of a word.
-pub(crate) fn stored(line: Line, addr: Addr, value: u64) -> Line
-    ensures { result ≡ stored line addr value }
+pub(crate) fn stored_line(line: Line, addr: Addr, value: u64) -> Line
+    ensures { result ≡ stored_line line addr value }
 {
     let mut words = line.words;
     words[word_of(addr) as usize] = value;
@@ -24,15 +23,15 @@ pub(crate) fn stored(line: Line, addr: Addr, value: u64) -> Line
 
 impl CacheArrays {
     /// Begins an operation with a way, and sends its request.
-    #[tactic(auto, unfolding(crate::specs::Caches::state_of))]
-    fn asks(&mut self, op: Op, way: u8, message: Message) -> Step
+    #[tactic(auto, unfolding(crate::specs::CacheArrays::state_of))]
+    fn request_row(&mut self, op: Op, way: u8, message: Message) -> CacheStep
         requires { way < self.old.config.ways }
-        ensures gives { Takes (asks (state_of self.old) op way message) (state_of self.new) result }
+        ensures gives { Takes (request_row (state_of self.old) op way message) (state_of self.new) result }
         ensures config { self.new.config ≡ self.old.config }
         ensures number { self.new.number ≡ self.old.number }
     {
         self.busy = Some(InProgress { op, way });
-        Step {
+        CacheStep {
             sent: Some(message),
             done: None,
             way,
@@ -40,10 +39,10 @@ impl CacheArrays {
     }
 
     /// Completes an operation at once.
-    fn hits(&self, op: Op, answer: u64, way: u8) -> Step
-        ensures { Takes (hits (state_of self.now) self.now.number op answer way) (state_of self.now) result }
+    fn hit_row(&self, op: Op, answer: u64, way: u8) -> CacheStep
+        ensures { Takes (hit_row (state_of self.now) self.now.number op answer way) (state_of self.now) result }
     {
-        Step {
+        CacheStep {
             sent: None,
             done: Some(Done {
                 cache: self.number,
@@ -55,7 +54,7 @@ impl CacheArrays {
     }
 
     /// Loads a word of the copy at a way, or asks for the block.
-    fn load_row(&mut self, addr: Addr, way: u8, at: Option<u8>) -> Step
+    fn load_row(&mut self, addr: Addr, way: u8, at: Option<u8>) -> CacheStep
         requires way { way < self.old.config.ways }
         requires at { IfSome at (λ w. w < self.old.config.ways) }
         ensures gives { Takes (load_row self.old.config (state_of self.old) self.old.number addr way at) (state_of self.new) result }
@@ -63,18 +62,18 @@ impl CacheArrays {
         ensures number { self.new.number ≡ self.old.number }
     {
         match at {
-            None => self.asks(Op::Load(addr), way, Message::rd(self.number, way, addr)),
+            None => self.request_row(Op::Load(addr), way, Message::rd(self.number, way, addr)),
             Some(at) => {
                 let line = self.line_at(addr, at);
                 let answer = line.words[word_of(addr) as usize];
                 self.use_way(group_of(self.config, addr), at);
-                self.hits(Op::Load(addr), answer, at)
+                self.hit_row(Op::Load(addr), answer, at)
             }
         }
     }
 
     /// Stores a word into the copy at a way.
-    fn store_hit(&mut self, addr: Addr, value: u64, at: u8) -> Step
+    fn store_hit(&mut self, addr: Addr, value: u64, at: u8) -> CacheStep
         requires { at < self.old.config.ways }
         ensures gives { Takes (store_hit self.old.config (state_of self.old) self.old.number addr value at) (state_of self.new) result }
         ensures config { self.new.config ≡ self.old.config }
@@ -82,13 +81,13 @@ impl CacheArrays {
     {
         let set = group_of(self.config, addr);
         let line = self.line_at(addr, at);
-        self.write_line(set, at, stored(line, addr, value));
+        self.write_line(set, at, stored_line(line, addr, value));
         self.use_way(set, at);
-        self.hits(Op::Store(addr, value), 0, at)
+        self.hit_row(Op::Store(addr, value), 0, at)
     }
 
     /// Stores a word into the copy at a way where it is in `E` or `M`, or asks for the block.
-    fn store_row(&mut self, addr: Addr, value: u64, way: u8, at: Option<u8>) -> Step
+    fn store_row(&mut self, addr: Addr, value: u64, way: u8, at: Option<u8>) -> CacheStep
         requires way { way < self.old.config.ways }
         requires at { IfSome at (λ w. w < self.old.config.ways) }
         ensures gives { Takes (store_row self.old.config (state_of self.old) self.old.number addr value way at) (state_of self.new) result }
@@ -96,7 +95,7 @@ impl CacheArrays {
         ensures number { self.new.number ≡ self.old.number }
     {
         match at {
-            None => self.asks(
+            None => self.request_row(
                 Op::Store(addr, value),
                 way,
                 Message::wr(self.number, way, addr),
@@ -105,7 +104,7 @@ impl CacheArrays {
                 if self.line_at(addr, at).state.writable() {
                     self.store_hit(addr, value, at)
                 } else {
-                    self.asks(
+                    self.request_row(
                         Op::Store(addr, value),
                         at,
                         Message::wr(self.number, at, addr),
@@ -116,20 +115,24 @@ impl CacheArrays {
     }
 
     /// Asks for the copy at a way to be given up.
-    fn evict_row(&mut self, addr: Addr, at: Option<u8>) -> Step
+    fn evict_row(&mut self, addr: Addr, at: Option<u8>) -> CacheStep
         requires { IfSome at (λ w. w < self.old.config.ways) }
         ensures gives { Takes (evict_row (state_of self.old) self.old.number addr at) (state_of self.new) result }
         ensures config { self.new.config ≡ self.old.config }
         ensures number { self.new.number ≡ self.old.number }
     {
         match at {
-            None => self.hits(Op::Evict(addr), 0, 0),
-            Some(at) => self.asks(Op::Evict(addr), at, Message::evict(self.number, at, addr)),
+            None => self.hit_row(Op::Evict(addr), 0, 0),
+            Some(at) => self.request_row(
+                Op::Evict(addr),
+                at,
+                Message::evict(self.number, at, addr),
+            ),
         }
     }
 
     /// What an idle cache does when it is given an operation.
-    pub(crate) fn issue_row(&mut self, op: Op, way: u8) -> Step
+    pub(crate) fn issue_row(&mut self, op: Op, way: u8) -> CacheStep
         requires { way < self.old.config.ways }
         ensures gives { Takes (issue_row self.old.config (state_of self.old) self.old.number op way) (state_of self.new) result }
         ensures config { self.new.config ≡ self.old.config }
@@ -138,8 +141,12 @@ impl CacheArrays {
         match op {
             Op::Load(addr) => self.load_row(addr, way, self.found(addr)),
             Op::Store(addr, value) => self.store_row(addr, value, way, self.found(addr)),
-            Op::UcLoad(addr) => self.asks(op, 0, Message::uc_rd(self.number, addr)),
-            Op::UcStore(addr, value) => self.asks(op, 0, Message::uc_wr(self.number, addr, value)),
+            Op::UcLoad(addr) => self.request_row(op, 0, Message::uc_rd(self.number, addr)),
+            Op::UcStore(addr, value) => self.request_row(
+                op,
+                0,
+                Message::uc_wr(self.number, addr, value),
+            ),
             Op::Evict(addr) => self.evict_row(addr, self.found(addr)),
         }
     }

@@ -1,25 +1,24 @@
 //! A cache: its lines, the table of what it does, and the policy that names its victims.
 #![tactic(auto)]
 
-mod arrays;
 mod cache;
-mod calls;
-mod comes;
+mod cache_arrays;
+mod cache_table;
 mod commands;
 mod grants;
+mod has_row;
 mod issue;
+pub mod laws;
 mod line;
-mod looks;
-mod meaning;
-mod opening;
-mod places;
+mod lines;
+mod new_cache;
 mod policy;
+mod recency;
 mod views;
 
-pub use arrays::CacheArrays;
 pub use cache::{Cache, address_of};
-pub use line::{Busy, Foreign, InProgress, Line, Step, WayView};
-pub use meaning::laws;
+pub use cache_arrays::CacheArrays;
+pub use line::{Busy, CacheStep, Foreign, InProgress, Line, WayView};
 pub use policy::{Victim, oldest};
 
 #[cfg(test)]

@@ -28,7 +28,7 @@ pub struct WayView {
 
 /// What a call on a cache gave.
 #[derive(Clone, Copy, Debug, PartialEq, Eq)]
-pub struct Step {
+pub struct CacheStep {
     /// The message that the cache sends.
     pub sent: Option<Message>,
     /// The operation that has completed, with its answer.

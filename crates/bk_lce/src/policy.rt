@@ -1,11 +1,10 @@
 ghost use Rattle.std.specs.Prelude.{◌≡◌, ◌<◌, ◌≤◌, length, position, not, IfSome};
 ghost use Rattle.std.specs.Fn.{FnReturnsAt};
 ghost use Rattle.bk_base.specs.States.{is_readable};
-ghost use Rattle.bk_lce.specs.Asked.{IsPolicy};
-ghost use Rattle.bk_lce.specs.Caches.{state_of};
-ghost use Rattle.bk_lce.specs.Policies.{AreViews, IsOfGreatestAge, IsOldest, views};
+ghost use Rattle.bk_lce.specs.Policies.{IsPolicy, AreViews, IsOfGreatestAge, IsOldest, views};
+ghost use Rattle.bk_lce.specs.CacheArrays.{state_of};
 
-use crate::arrays::CacheArrays;
+use crate::cache_arrays::CacheArrays;
 use crate::line::WayView;
 
 /// A victim policy that was stored: which way of a set gives way to a block that is to be placed there. Contracts see

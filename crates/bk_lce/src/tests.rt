@@ -1,6 +1,6 @@
 ghost use Rattle.std.specs.Prelude.{◌≡◌};
 ghost use Rattle.bk_msg.specs.Within.{IsWithin};
-ghost use Rattle.bk_lce.specs.Asked.{IsPolicy};
+ghost use Rattle.bk_lce.specs.Policies.{IsPolicy};
 
 use super::*;
 use bk_base::{Addr, Coh, Config, Done, Op};

@@ -1,9 +1,9 @@
 ghost use Rattle.std.specs.Prelude.{◌≡◌, ◌≤◌, ◌<◌, ◌==◌, length, position, IfSome};
 ghost use Rattle.arrayvec.specs.ArrayVec.{array_vec_len};
 ghost use Rattle.bk_lce.specs.Policies.{age_in, view_of, views, AreViews};
-ghost use Rattle.bk_lce.specs.Caches.{state_of};
+ghost use Rattle.bk_lce.specs.CacheArrays.{state_of};
 
-use crate::arrays::CacheArrays;
+use crate::cache_arrays::CacheArrays;
 use crate::line::WayView;
 use arrayvec::ArrayVec;
 use bk_base::Coh;
@@ -29,7 +29,7 @@ fn age_in(ways: &[u8], way: u8) -> u8
 
 impl CacheArrays {
     /// What a policy is told of a way of a set.
-    #[tactic(auto, using(crate::proofs::Written::recency_read), unfolding(crate::specs::Caches::state_of))]
+    #[tactic(auto, using(crate::proofs::Written::recency_read), unfolding(crate::specs::CacheArrays::state_of))]
     fn view(&self, set: u8, way: u8) -> WayView
         requires set { set < self.now.config.sets }
         requires way { way < self.now.config.ways }

@@ -6,11 +6,11 @@ use Rattle.bk_base.specs.declared.coh.Coh.{Coh}
 use Rattle.bk_base.specs.declared.coh.Coh.TheVariants.{I, S, F, M, O}
 use Rattle.bk_base.specs.States.{is_readable, is_writable, is_owner_like}
 use Rattle.bk_machine.specs.Entries.{Entry, Holds, times, is_light}
-use Rattle.bk_machine.specs.Messages.{Op, Load, Store, UcLoad, UcStore, Evict, Wr, UcRd, UcWr, EvictRequest, Inv, StWb, StTr, Blk, StWake, UcBlk, UcDone, Done, InvAck, CohAck, Read, Write, WriteWord, answer_of, request_tag, request_way, request_suits, asks_block, asks_read}
-use Rattle.bk_machine.specs.Transactions.{Idle, Kept, NotRead, ReadAsked, Got, Transaction, is_asked}
+use Rattle.bk_machine.specs.Messages.{Op, Load, Store, UcLoad, UcStore, Evict, Wr, UcRd, UcWr, EvictRequest, Inv, StWb, StTr, Blk, StWake, UcBlk, UcDone, EvictDone, InvAck, CohAck, Read, Write, WriteWord, answer_of, request_tag, request_way, request_suits, asks_block, asks_read}
+use Rattle.bk_machine.specs.Transactions.{Idle, FlushKept, NotRead, ReadAsked, Got, Transaction, is_asked}
 use Rattle.bk_machine.specs.World.{World}
-use Rattle.bk_machine.specs.Invariant.{InRange}
-use Rattle.bk_machine.specs.Steps.{Step, LoadHits, StoreHits, Asks, EvictIdles, InvComes, FlushComes, TransferComes, BlockLoads, BlockStores, WakeStores, WordComes, StoreComes, EvictComes, FillLoads, FillStores, MemoryReads, MemoryWrites, MemoryWritesWord}
+use Rattle.bk_machine.specs.Invariant.{WayInRange}
+use Rattle.bk_machine.specs.Steps.{MachineStep, LoadHits, StoreHits, Asks, EvictIdles, InvComes, FlushComes, TransferComes, BlockLoads, BlockStores, WakeStores, WordComes, StoreComes, EvictComes, FillLoads, FillStores, MemoryReads, MemoryWrites, MemoryWritesWord}
 use Rattle.bk_machine.specs.Actions.{Action, Takes, Settles, CollectsAck, CollectsAnswer, CollectsBlock, Invalidates, FlushesVictim, FlushesOwn, FlushesOwner, WritesBack, ReadsMemory, WritesWord, GrantsByBlock, GrantsByWake, GrantsByTransfer, AnswersWord, AnswersStore, AnswersEvict, PaysRequester, PaysOwner, Finishes, Idles, NoGranted, Ungranted, Ready, Granted, may_pair}
 
 -- the states that a granted state leaves to other caches
@@ -32,78 +32,99 @@ AskFits (Evict t) w h = Holds (h w) t
 
 -- the entry that a block would take the place of may be dropped
 abbrev pub VictimLight : Transaction → (ℕ → ℕ → Entry) → Type 0
-VictimLight x d = is_readable (d x.cache (request_way x.request)).state ≡ true → (d x.cache (request_way x.request)).tag ≢ request_tag x.request
+VictimLight x d = is_readable (d x.cache (request_way x.request)).state ≡ true
+    → (d x.cache (request_way x.request)).tag ≢ request_tag x.request
     → is_light (d x.cache (request_way x.request)).state ≡ true
 
--- what holds where a step of the group s is taken
-abbrev pub StepFits : Shape → ℕ → Step → World → Type 0
-StepFits shape s (LoadHits c t v k) w = (w.busy c ≡ None) × Holds (w.held s c v) t
-StepFits shape s (StoreHits c t v k n) w = (w.busy c ≡ None) × (Holds (w.held s c v) t) × is_writable (w.held s c v).state ≡ true
-StepFits shape s (Asks c v op) w = (w.busy c ≡ None) × (AskFits op v (w.held s c)) × InRange shape c v
-StepFits shape s (EvictIdles c t) w = (w.busy c ≡ None) × ((v : ℕ) → Holds (w.held s c v) t → ⊥)
-StepFits shape s (InvComes c t rest) w = w.command c ≡ (s, Inv t) ∷ rest
-StepFits shape s (FlushComes c v t x rest) w = (w.command c ≡ (s, StWb t x) ∷ rest) × Holds (w.held s c v) t
-StepFits shape s (TransferComes c v t y peer pv x rest) w = (w.command c ≡ (s, StTr t y peer pv x) ∷ rest) × Holds (w.held s c v) t
-StepFits shape s (BlockLoads c t v k x ws rest) w = (w.command c ≡ (s, Blk t v x ws) ∷ rest) × w.busy c ≡ Some (s, record { op = Load t k; way = v })
-StepFits shape s (BlockStores c t v k n x ws rest) w =
-    (w.command c ≡ (s, Blk t v x ws) ∷ rest) × (w.busy c ≡ Some (s, record { op = Store t k n; way = v })) × is_writable x ≡ true
-StepFits shape s (WakeStores c t v k n rest) w =
-    (w.command c ≡ (s, StWake t v) ∷ rest) × (w.busy c ≡ Some (s, record { op = Store t k n; way = v })) × Holds (w.held s c v) t
-StepFits shape s (WordComes c t v k n rest) w = (w.command c ≡ (s, UcBlk t k n) ∷ rest) × w.busy c ≡ Some (s, record { op = UcLoad t k; way = v })
-StepFits shape s (StoreComes c t v k n rest) w = (w.command c ≡ (s, UcDone t k) ∷ rest) × w.busy c ≡ Some (s, record { op = UcStore t k n; way = v })
-StepFits shape s (EvictComes c t v rest) w = (w.command c ≡ (s, Done t) ∷ rest) × w.busy c ≡ Some (s, record { op = Evict t; way = v })
-StepFits shape s (FillLoads c o t v k x ws rest) w =
-    (w.fill c o ≡ (s, record { tag = t; way = v; state = x; words = ws }) ∷ rest) × w.busy c ≡ Some (s, record { op = Load t k; way = v })
-StepFits shape s (FillStores c o t v k n x ws rest) w =
-    (w.fill c o ≡ (s, record { tag = t; way = v; state = x; words = ws }) ∷ rest) × (w.busy c ≡ Some (s, record { op = Store t k n; way = v })) × is_writable x ≡ true
-StepFits shape s (MemoryReads t rest) w = w.memout ≡ (s, Read t) ∷ rest
-StepFits shape s (MemoryWrites t ws rest) w = w.memout ≡ (s, Write t ws) ∷ rest
-StepFits shape s (MemoryWritesWord t k n rest) w = w.memout ≡ (s, WriteWord t k n) ∷ rest
+-- what holds where a step of the group g is taken
+abbrev pub StepFits : Shape → ℕ → MachineStep → World → Type 0
+StepFits shape g (LoadHits c t w k) world = (world.busy c ≡ None) × Holds (world.entries g c w) t
+StepFits shape g (StoreHits c t w k n) world = (world.busy c ≡ None) × (Holds (world.entries g c w) t)
+    × is_writable (world.entries g c w).state ≡ true
+StepFits shape g (Asks c w op) world = (world.busy c ≡ None) × (AskFits op w (world.entries g c)) × WayInRange shape c w
+StepFits shape g (EvictIdles c t) world = (world.busy c ≡ None) × ((w : ℕ) → Holds (world.entries g c w) t → ⊥)
+StepFits shape g (InvComes c t rest) world = world.command c ≡ (g, Inv t) ∷ rest
+StepFits shape g (FlushComes c w t x rest) world = (world.command c ≡ (g, StWb t x) ∷ rest) × Holds (world.entries g c w) t
+StepFits shape g (TransferComes c w t y peer pv x rest) world = (world.command c ≡ (g, StTr t y peer pv x) ∷ rest)
+    × Holds (world.entries g c w) t
+StepFits shape g (BlockLoads c t w k x ws rest) world = (world.command c ≡ (g, Blk t w x ws) ∷ rest)
+    × world.busy c ≡ Some (g, record { op = Load t k; way = w })
+StepFits shape g (BlockStores c t w k n x ws rest) world =
+    (world.command c ≡ (g, Blk t w x ws) ∷ rest) × (world.busy c ≡ Some (g, record { op = Store t k n; way = w }))
+    × is_writable x ≡ true
+StepFits shape g (WakeStores c t w k n rest) world =
+    (world.command c ≡ (g, StWake t w) ∷ rest) × (world.busy c ≡ Some (g, record { op = Store t k n; way = w }))
+    × Holds (world.entries g c w) t
+StepFits shape g (WordComes c t w k n rest) world = (world.command c ≡ (g, UcBlk t k n) ∷ rest)
+    × world.busy c ≡ Some (g, record { op = UcLoad t k; way = w })
+StepFits shape g (StoreComes c t w k n rest) world = (world.command c ≡ (g, UcDone t k) ∷ rest)
+    × world.busy c ≡ Some (g, record { op = UcStore t k n; way = w })
+StepFits shape g (EvictComes c t w rest) world = (world.command c ≡ (g, EvictDone t) ∷ rest)
+    × world.busy c ≡ Some (g, record { op = Evict t; way = w })
+StepFits shape g (FillLoads c o t w k x ws rest) world =
+    (world.fill c o ≡ (g, record { tag = t; way = w; state = x; words = ws }) ∷ rest)
+    × world.busy c ≡ Some (g, record { op = Load t k; way = w })
+StepFits shape g (FillStores c o t w k n x ws rest) world =
+    (world.fill c o ≡ (g, record { tag = t; way = w; state = x; words = ws }) ∷ rest)
+    × (world.busy c ≡ Some (g, record { op = Store t k n; way = w })) × is_writable x ≡ true
+StepFits shape g (MemoryReads t rest) world = world.memout ≡ (g, Read t) ∷ rest
+StepFits shape g (MemoryWrites t ws rest) world = world.memout ≡ (g, Write t ws) ∷ rest
+StepFits shape g (MemoryWritesWord t k n rest) world = world.memout ≡ (g, WriteWord t k n) ∷ rest
 
--- a flush of the entry (o, v), which holds the tag u
-pub record FlushAllowed (s o v u : ℕ) (y : Coh) (x : Transaction) (w : World) : Type 0 where
-  pub ungranted : Ungranted s x w
+-- a flush of the entry (o, w), which holds the tag u
+pub record FlushAllowed (g o w u : ℕ) (y : Coh) (x : Transaction) (world : World) : Type 0 where
+  pub ungranted : Ungranted g x world
   pub idle : x.write_back ≡ Idle
-  pub aims : Holds (w.directory s o v) u
+  pub aims : Holds (world.directory g o w) u
   pub light : is_light y ≡ true
   pub weaker : is_owner_like y ≡ false
   pub own : (u ≡ request_tag x.request) ⊎ (o ≡ x.cache)
 
--- when the law holds of an action of the group s
+-- when the law holds of an action of the group g
 abbrev pub Allowed : ℕ → Action → World → Type 0
-Allowed s (Takes c q rest) w = (w.transaction ≡ None) × (w.pending s ≡ false) × w.request c ≡ (s, q) ∷ rest
-Allowed s (Settles c t rest) w = NoGranted w.transaction × w.response c ≡ (s, CohAck t) ∷ rest
-Allowed s (CollectsAck c t rest x) w = Ungranted s x w × w.response c ≡ (s, InvAck t) ∷ rest
-Allowed s (CollectsAnswer c t ws rest x) w = Ungranted s x w × w.response c ≡ (s, answer_of t ws) ∷ rest
-Allowed s (CollectsBlock t ws rest x) w = Ungranted s x w × (x.reading ≡ ReadAsked) × w.memin ≡ (s, record { tag = t; words = ws }) ∷ rest
-Allowed s (Invalidates f to x) w =
-    Ungranted s x w × (times x.cache to ≡ 0) × ((c : ℕ) → times c to ≤ 1)
-    × ((c : ℕ) → times c to ≡ 1 → (v : ℕ) × Holds (w.directory s c v) (request_tag x.request))
-    × ((c v : ℕ) → times c to ≡ 1 → Holds (w.directory s c v) (request_tag x.request) → is_light (w.directory s c v).state ≡ true)
-Allowed s (FlushesVictim x) w = FlushAllowed s x.cache (request_way x.request) (w.directory s x.cache (request_way x.request)).tag I x w
-Allowed s (FlushesOwn v y x) w = FlushAllowed s x.cache v (request_tag x.request) y x w
-Allowed s (FlushesOwner o v y x) w = FlushAllowed s o v (request_tag x.request) y x w
-Allowed s (WritesBack b x) w = Ungranted s x w × x.write_back ≡ Kept b
-Allowed s (ReadsMemory x) w =
-    Ungranted s x w × (x.write_back ≡ Idle) × (x.reading ≡ NotRead) × (asks_read x.request ≡ true)
-    × ((c v : ℕ) → Holds (w.directory s c v) (request_tag x.request) → is_light (w.directory s c v).state ≡ true)
-Allowed s (WritesWord t k n x) w =
-    Ready s x w × (x.request ≡ UcWr t k n) × (x.written ≡ false) × (x.reading ≡ NotRead) × ((c v : ℕ) → Holds (w.directory s c v) t → ⊥)
-Allowed s (GrantsByBlock ws y x) w =
-    Ready s x w × (x.reading ≡ Got ws) × (asks_block x.request ≡ true) × (request_suits x.request y ≡ true) × (is_readable y ≡ true) × VictimLight x (w.directory s)
-    × ((c v : ℕ) → c ≢ x.cache → Holds (w.directory s c v) (request_tag x.request) → fits y (w.directory s c v).state ≡ true)
-Allowed s (GrantsByWake t v x) w =
-    Ready s x w × (x.request ≡ Wr t v) × (is_asked x.reading ≡ false) × ((own : ℕ) × Holds (w.directory s x.cache own) t)
-    × ((c i : ℕ) → c ≢ x.cache → Holds (w.directory s c i) t → ⊥)
-Allowed s (GrantsByTransfer o ow y z x) w =
-    Ready s x w × (is_asked x.reading ≡ false) × (asks_block x.request ≡ true) × (request_suits x.request z ≡ true) × VictimLight x (w.directory s)
-    × (o ≢ x.cache) × (Holds (w.directory s o ow) (request_tag x.request)) × (is_owner_like (w.directory s o ow).state ≡ true)
-    × (may_pair (w.directory s o ow).state y z ≡ true)
-    × (z ≡ M → (c v : ℕ) → c ≢ x.cache → c ≢ o → Holds (w.directory s c v) (request_tag x.request) → ⊥)
-Allowed s (AnswersWord t k ws x) w = Ready s x w × (x.request ≡ UcRd t k) × x.reading ≡ Got ws
-Allowed s (AnswersStore t k n x) w = Ready s x w × (x.request ≡ UcWr t k n) × (x.written ≡ true) × is_asked x.reading ≡ false
-Allowed s (AnswersEvict t v x) w = Ready s x w × (x.request ≡ EvictRequest t v) × is_asked x.reading ≡ false
-Allowed s (PaysRequester d x) w = Granted s x w × x.requester_debt ≡ Some d
-Allowed s (PaysOwner d x) w = Granted s x w × x.owner_debt ≡ Some d
-Allowed s (Finishes x) w = Granted s x w × (x.requester_debt ≡ None) × x.owner_debt ≡ None
-Allowed s Idles w = Unit {0}
+Allowed g (Takes c q rest) world = (world.transaction ≡ None) × (world.pending g ≡ false) × world.request c ≡ (g, q) ∷ rest
+Allowed g (Settles c t rest) world = NoGranted world.transaction × world.response c ≡ (g, CohAck t) ∷ rest
+Allowed g (CollectsAck c t rest x) world = Ungranted g x world × world.response c ≡ (g, InvAck t) ∷ rest
+Allowed g (CollectsAnswer c t ws rest x) world = Ungranted g x world × world.response c ≡ (g, answer_of t ws) ∷ rest
+Allowed g (CollectsBlock t ws rest x) world = Ungranted g x world × (x.reading ≡ ReadAsked)
+    × world.memin ≡ (g, record { tag = t; words = ws }) ∷ rest
+Allowed g (Invalidates f to x) world =
+    Ungranted g x world × (times x.cache to ≡ 0) × ((c : ℕ) → times c to ≤ 1)
+    × ((c : ℕ) → times c to ≡ 1 → (w : ℕ) × Holds (world.directory g c w) (request_tag x.request))
+    × ((c w : ℕ) → times c to ≡ 1 → Holds (world.directory g c w) (request_tag x.request)
+    → is_light (world.directory g c w).state ≡ true)
+Allowed g (FlushesVictim x) world =
+    FlushAllowed g x.cache (request_way x.request) (world.directory g x.cache (request_way x.request)).tag I x world
+Allowed g (FlushesOwn w y x) world = FlushAllowed g x.cache w (request_tag x.request) y x world
+Allowed g (FlushesOwner o w y x) world = FlushAllowed g o w (request_tag x.request) y x world
+Allowed g (WritesBack b x) world = Ungranted g x world × x.write_back ≡ FlushKept b
+Allowed g (ReadsMemory x) world =
+    Ungranted g x world × (x.write_back ≡ Idle) × (x.reading ≡ NotRead) × (asks_read x.request ≡ true)
+    × ((c w : ℕ) → Holds (world.directory g c w) (request_tag x.request) → is_light (world.directory g c w).state ≡ true)
+Allowed g (WritesWord t k n x) world =
+    Ready g x world × (x.request ≡ UcWr t k n) × (x.written ≡ false) × (x.reading ≡ NotRead)
+    × ((c w : ℕ) → Holds (world.directory g c w) t → ⊥)
+Allowed g (GrantsByBlock ws y x) world =
+    Ready g x world × (x.reading ≡ Got ws) × (asks_block x.request ≡ true) × (request_suits x.request y ≡ true)
+    × (is_readable y ≡ true)
+    × VictimLight x (world.directory g)
+    × ((c w : ℕ) → c ≢ x.cache → Holds (world.directory g c w) (request_tag x.request)
+    → fits y (world.directory g c w).state ≡ true)
+Allowed g (GrantsByWake t w x) world =
+    Ready g x world × (x.request ≡ Wr t w) × (is_asked x.reading ≡ false) × ((own : ℕ) × Holds (world.directory g x.cache own) t)
+    × ((c i : ℕ) → c ≢ x.cache → Holds (world.directory g c i) t → ⊥)
+Allowed g (GrantsByTransfer o ow y z x) world =
+    Ready g x world × (is_asked x.reading ≡ false) × (asks_block x.request ≡ true) × (request_suits x.request z ≡ true)
+    × VictimLight x (world.directory g)
+    × (o ≢ x.cache) × (Holds (world.directory g o ow) (request_tag x.request))
+    × (is_owner_like (world.directory g o ow).state ≡ true)
+    × (may_pair (world.directory g o ow).state y z ≡ true)
+    × (z ≡ M → (c w : ℕ) → c ≢ x.cache → c ≢ o → Holds (world.directory g c w) (request_tag x.request) → ⊥)
+Allowed g (AnswersWord t k ws x) world = Ready g x world × (x.request ≡ UcRd t k) × x.reading ≡ Got ws
+Allowed g (AnswersStore t k n x) world = Ready g x world × (x.request ≡ UcWr t k n) × (x.written ≡ true)
+    × is_asked x.reading ≡ false
+Allowed g (AnswersEvict t w x) world = Ready g x world × (x.request ≡ EvictRequest t w) × is_asked x.reading ≡ false
+Allowed g (PaysRequester d x) world = Granted g x world × x.requester_debt ≡ Some d
+Allowed g (PaysOwner d x) world = Granted g x world × x.owner_debt ≡ Some d
+Allowed g (Finishes x) world = Granted g x world × (x.requester_debt ≡ None) × x.owner_debt ≡ None
+Allowed g Idles world = Unit {0}

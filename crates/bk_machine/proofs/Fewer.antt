@@ -1,13 +1,16 @@
 -- Copies that are fewer or weaker keep what is said of all copies.
-use Rattle.std.proofs.Common.{◌≡◌, ℕ, Bool, true, false, cond, arith}
+use Rattle.std.proofs.Common.{◌≡◌, ℕ, Bool, true, false, arith}
 use Rattle.std.specs.Prelude.{Option, Some, None}
 use Rattle.std.proofs.lemmas.Bool.Decides.{nat_tests}
+use Rattle.std.specs.Bool.{OnFalse}
 use Rattle.bk_machine.specs.Tables.{put2}
-use Rattle.bk_machine.specs.Entries.{Entry, Holds, with_state, wipe, is_light}
+use Rattle.bk_machine.specs.Entries.{Entry, Holds, with_state, wiped_in_cache, is_light}
 use Rattle.bk_machine.specs.Messages.{Op, Load, Store, UcLoad, UcStore, Evict, Request, Rd, Wr, UcRd, UcWr, EvictRequest, op_tag, request_tag}
-use Rattle.bk_machine.specs.Transactions.{InProgress, Transaction, WriteBack, Idle, Asked, Kept, Reading, NotRead, ReadAsked, Got}
+use Rattle.bk_machine.specs.Transactions.{InProgress, Transaction, WriteBack, Idle, FlushAsked, FlushKept, Reading, NotRead, ReadAsked, Got}
 use Rattle.bk_machine.specs.Phases.{Flush, NoFlush, FlushSent, FlushDone, Flight, ByBlock, ByWake, ByTransfer, ByFill, ByWord, ByDone}
-use Rattle.bk_machine.specs.Invariant.{OneWay, Alone, NoWriter, NoCopy, Placed, OpenValues, TransactionValues, KeptValues, ReadValues, WrittenValues, FlushValues, FlightValues, StoredAt, AllLight}
+use Rattle.bk_machine.specs.Copies.{OneWay, Alone}
+use Rattle.bk_machine.specs.Values.{NoWriter, NoCopy, OpenValues, TransactionValues, KeptValues, ReadValues, WrittenValues, FlushValues, FlightValues, StoredAt, AllLight}
+use Rattle.bk_machine.specs.Invariant.{WaitingCopies}
 use Rattle.bk_base.specs.declared.coh.Coh.{Coh}
 use Rattle.bk_base.specs.States.{is_readable, is_writable}
 
@@ -31,12 +34,12 @@ module _ {new old : ℕ → ℕ → Entry} (f : Fewer new old) where
   pub NoCopy-fewer : (t : ℕ) → NoCopy old t → NoCopy new t
   NoCopy-fewer t n c w k = n c w (f.holds c w t k)
 
-  pub Placed-fewer : (op : Op) (w c : ℕ) → Placed op w (old c) → Placed op w (new c)
-  Placed-fewer (Load t k) w c p = λ v h. p v (f.holds c v t h)
-  Placed-fewer (Store t k x) w c p = λ v h. ((p v (f.holds c v t h)).0, f.writes c v t h (p v (f.holds c v t h)).1)
-  Placed-fewer (UcLoad t k) w c p = tt
-  Placed-fewer (UcStore t k x) w c p = tt
-  Placed-fewer (Evict t) w c p = tt
+  pub WaitingCopies-fewer : (op : Op) (w c : ℕ) → WaitingCopies op w (old c) → WaitingCopies op w (new c)
+  WaitingCopies-fewer (Load t k) w c p = λ v h. p v (f.holds c v t h)
+  WaitingCopies-fewer (Store t k x) w c p = λ v h. ((p v (f.holds c v t h)).0, f.writes c v t h (p v (f.holds c v t h)).1)
+  WaitingCopies-fewer (UcLoad t k) w c p = tt
+  WaitingCopies-fewer (UcStore t k x) w c p = tt
+  WaitingCopies-fewer (Evict t) w c p = tt
 
   pub FlushValues-fewer : (fl : Flush) (v : ℕ → ℕ → ℕ) → FlushValues fl old v → FlushValues fl new v
   FlushValues-fewer NoFlush v p = tt
@@ -51,7 +54,8 @@ module _ {new old : ℕ → ℕ → Entry} (f : Fewer new old) where
   StoredAt-fewer (UcStore t k x) a p = (p.0, NoCopy-fewer t p.1)
   StoredAt-fewer (Evict t) a p = tt
 
-  pub FlightValues-fewer : (x : Flight) (b : InProgress) (v a : ℕ → ℕ → ℕ) → FlightValues x b old v a → FlightValues x b new v a
+  pub FlightValues-fewer : (x : Flight) (b : InProgress) (v a : ℕ → ℕ → ℕ) → FlightValues x b old v a
+      → FlightValues x b new v a
   FlightValues-fewer (ByBlock x ws) b v a p = p
   FlightValues-fewer ByWake b v a p = tt
   FlightValues-fewer (ByTransfer o ow y x) b v a p = tt
@@ -61,55 +65,61 @@ module _ {new old : ℕ → ℕ → Entry} (f : Fewer new old) where
 
   pub KeptValues-fewer : (x : WriteBack) (v : ℕ → ℕ → ℕ) → KeptValues x old v → KeptValues x new v
   KeptValues-fewer Idle v p = tt
-  KeptValues-fewer Asked v p = tt
-  KeptValues-fewer (Kept b) v p = (p.0, NoWriter-fewer b.tag p.1)
+  KeptValues-fewer FlushAsked v p = tt
+  KeptValues-fewer (FlushKept b) v p = (p.0, NoWriter-fewer b.tag p.1)
 
   pub AllLight-fewer : Lighter new old → (t : ℕ) → AllLight old t → AllLight new t
-  AllLight-fewer g t n c w k = g c w t k (n c w (f.holds c w t k))
+  AllLight-fewer test t n c w k = test c w t k (n c w (f.holds c w t k))
 
-  pub ReadValues-fewer : Lighter new old → (x : Reading) (t : ℕ) (v : ℕ → ℕ → ℕ) → ReadValues x t old v → ReadValues x t new v
-  ReadValues-fewer g NotRead t v p = tt
-  ReadValues-fewer g ReadAsked t v p = AllLight-fewer g t p
-  ReadValues-fewer g (Got ws) t v p = (p.0, AllLight-fewer g t p.1)
+  pub ReadValues-fewer : Lighter new old → (x : Reading) (t : ℕ) (v : ℕ → ℕ → ℕ) → ReadValues x t old v
+      → ReadValues x t new v
+  ReadValues-fewer test NotRead t v p = tt
+  ReadValues-fewer test ReadAsked t v p = AllLight-fewer test t p
+  ReadValues-fewer test (Got ws) t v p = (p.0, AllLight-fewer test t p.1)
 
-  pub WrittenValues-fewer : (x : Bool) (r : Request) (a : ℕ → ℕ → ℕ) → WrittenValues x r old a → WrittenValues x r new a
+  pub WrittenValues-fewer : (b : Bool) (r : Request) (a : ℕ → ℕ → ℕ) → WrittenValues b r old a → WrittenValues b r new a
   WrittenValues-fewer false r a p = tt
   WrittenValues-fewer true (Rd t w) a p = p
   WrittenValues-fewer true (Wr t w) a p = p
   WrittenValues-fewer true (UcRd t k) a p = p
-  WrittenValues-fewer true (UcWr t k x) a p = (p.0, NoCopy-fewer t p.1)
+  WrittenValues-fewer true (UcWr t k b) a p = (p.0, NoCopy-fewer t p.1)
   WrittenValues-fewer true (EvictRequest t w) a p = p
 
-  pub TransactionValues-fewer : Lighter new old → (x : Transaction) (v a : ℕ → ℕ → ℕ) → TransactionValues x old v a → TransactionValues x new v a
-  TransactionValues-fewer g x v a p = record {
+  pub TransactionValues-fewer : Lighter new old → (x : Transaction) (v a : ℕ → ℕ → ℕ) → TransactionValues x old v a
+      → TransactionValues x new v a
+  TransactionValues-fewer test x v a p = record {
     kept = KeptValues-fewer x.write_back v p.kept;
-    read = ReadValues-fewer g x.reading (request_tag x.request) v p.read;
+    read = ReadValues-fewer test x.reading (request_tag x.request) v p.read;
     written = WrittenValues-fewer x.written x.request a p.written;
   }
 
-  pub OpenValues-fewer : Lighter new old → (x : Option Transaction) (v a : ℕ → ℕ → ℕ) → OpenValues x old v a → OpenValues x new v a
+  pub OpenValues-fewer : Lighter new old → (x : Option Transaction) (v a : ℕ → ℕ → ℕ) → OpenValues x old v a
+      → OpenValues x new v a
   OpenValues-fewer l None v a p = tt
   OpenValues-fewer l (Some x) v a p =
-      (elim x.granted as (λ (g : Bool). cond g (Unit {0}) (TransactionValues x old v a) → cond g (Unit {0}) (TransactionValues x new v a)) [ true ↦ λ q. tt | false ↦ λ q. TransactionValues-fewer l x v a q ]) p
+      (elim x.granted as (λ (test : Bool). OnFalse test (TransactionValues x old v a)
+      → OnFalse test (TransactionValues x new v a)) [ true ↦ λ q. tt | false ↦ λ q. TransactionValues-fewer l x v a q ]) p
 
 -- a cache that drops a tag
-pub wipe-fewer : (c t : ℕ) (h : ℕ → ℕ → Entry) → Fewer (wipe c t h) h
-unfolding wipe
+pub wipe-fewer : (c t : ℕ) (h : ℕ → ℕ → Entry) → Fewer (wiped_in_cache c t h) h
+unfolding wiped_in_cache
 wipe-fewer c t h = record { holds = λ i w u k. grind arith; writes = λ i w u k e. grind arith }
 
 -- an entry that gets a weaker state
-pub weaker-fewer : (c w : ℕ) (x : Coh) (h : ℕ → ℕ → Entry) → is_writable x ≡ false → is_readable (h c w).state ≡ true
-    → Fewer (put2 h c w (with_state (h c w) x)) h
+pub weaker-fewer : (c w : ℕ) (state : Coh) (h : ℕ → ℕ → Entry) → is_writable state ≡ false
+    → is_readable (h c w).state ≡ true
+    → Fewer (put2 h c w (with_state (h c w) state)) h
 unfolding put2
 weaker-fewer c w x h e l = record {
   holds = λ i v u k. grind (arith, nat_tests);
   writes = λ i v u k n. grind (arith, nat_tests);
 }
 
-pub wipe-lighter : (c t : ℕ) (h : ℕ → ℕ → Entry) → Lighter (wipe c t h) h
-unfolding wipe
+pub wipe-lighter : (c t : ℕ) (h : ℕ → ℕ → Entry) → Lighter (wiped_in_cache c t h) h
+unfolding wiped_in_cache
 wipe-lighter c t h i w u k e = grind arith
 
-pub weaker-lighter : (c w : ℕ) (x : Coh) (h : ℕ → ℕ → Entry) → is_light x ≡ true → Lighter (put2 h c w (with_state (h c w) x)) h
+pub weaker-lighter : (c w : ℕ) (state : Coh) (h : ℕ → ℕ → Entry) → is_light state ≡ true
+    → Lighter (put2 h c w (with_state (h c w) state)) h
 unfolding put2
 weaker-lighter c w x h l i v u k e = grind (arith, nat_tests)

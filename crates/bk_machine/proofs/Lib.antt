@@ -26,6 +26,7 @@ pub mod Transfer
 pub mod Answer
 pub mod Wraps
 pub mod WrapsEngine
+pub mod WrapsQuiet
 pub mod WrapsGrant
 pub mod View
 pub mod Writes
@@ -45,3 +46,4 @@ pub mod Sound
 pub mod Rows
 pub mod Resting
 pub mod Foreign
+pub mod Unchanged

@@ -4,15 +4,17 @@ use Rattle.std.specs.Prelude.{Option, Some, None}
 use Rattle.std.proofs.lemmas.Bool.Decides.{nat_tests}
 use Rattle.bk_machine.specs.Messages.{StTr, Blk, StWake, UcBlk, CohAck, op_tag, op_word}
 use Rattle.bk_machine.specs.Transactions.{InProgress, Transaction}
-use Rattle.bk_machine.specs.Phases.{Flight, ByBlock, ByWake, ByTransfer, ByFill, ByWord, ByDone, Phase, Free, Open, Flying, Settling, commands_of, fills_of, responses_of, is_taken, asks, at_cache, flight_command, flight_fill, uncached_done}
+use Rattle.bk_machine.specs.Phases.{Flight, ByBlock, ByWake, ByTransfer, ByFill, ByWord, ByDone, Phase, Free, Open, Flying, Settling, commands_of, fills_of, responses_of, is_taken, requests_of, at_cache, flight_command, flight_fill, uncached_done}
 use Rattle.bk_machine.specs.Invariant.{TransactionAt, is_free}
-use Rattle.bk_machine.specs.World.{World, only, mine}
+use Rattle.bk_machine.specs.World.{World, of_group, option_of_group}
 use Rattle.bk_machine.specs.Claims.{Quiet, Rested}
-use Rattle.bk_machine.proofs.View.{mine-here}
+use Rattle.bk_machine.proofs.View.{option_of_group-here}
 use Rattle.bk_machine.specs.Invariant.{EveryGroup}
 
 -- of a phase with nothing on its way
-at_rest : (p : Phase) → ((c : ℕ) → commands_of p c ≡ []) → ((c o : ℕ) → fills_of p c o ≡ []) → ((c : ℕ) → responses_of p c ≡ []) → TransactionAt p None
+at_rest : (p : Phase) → ((c : ℕ) → commands_of p c ≡ []) → ((c o : ℕ) → fills_of p c o ≡ [])
+    → ((c : ℕ) → responses_of p c ≡ [])
+    → TransactionAt p None
     → p ≡ Free
 at_rest Free a b d t = refl
 at_rest (Open r b fl inv) a f d t = absurd t
@@ -48,25 +50,32 @@ at_rest (Settling r t) a b d e = absurd (none (d r))
     none : at_cache r r (CohAck t) ≡ [] → ⊥
     none k = grind (arith, nat_tests)
 
-idle : (o : Option InProgress) → asks false o ≡ [] → o ≡ None
+idle : (o : Option InProgress) → requests_of false o ≡ [] → o ≡ None
 idle o e = grind arith
 
-of-every-group : {X : Type 0} (x : Option (ℕ × X)) → ((s : ℕ) → mine s x ≡ None) → x ≡ None
+of-every-group : {X : Type 0} (x : Option (ℕ × X)) → ((g : ℕ) → option_of_group g x ≡ None) → x ≡ None
 of-every-group None f = refl
-of-every-group {X} (Some x) f = absurd (none (mine-here x.0 x.1) (f x.0))
+of-every-group {X} (Some x) f = absurd (none (option_of_group-here x.0 x.1) (f x.0))
   where
-    none : mine x.0 (Some (x.0, x.1)) ≡ Some x.1 → mine x.0 (Some x) ≡ None → ⊥
+    none : option_of_group x.0 (Some (x.0, x.1)) ≡ Some x.1 → option_of_group x.0 (Some x) ≡ None → ⊥
     none a b = cc
 
-pub quiet_rests : (w : World) → EveryGroup w → Quiet w → Rested w
-quiet_rests w all q = record { not_pending = λ s. good_pending s; idle = λ c. of-every-group (w.busy c) (λ s. idle (mine s (w.busy c)) (sym (asked s c))) }
+pub quiet_rests : (world : World) → EveryGroup world → Quiet world → Rested world
+quiet_rests world all q = record {
+  not_pending = λ g. good_pending g;
+  idle = λ c. of-every-group (world.busy c) (λ g. idle (option_of_group g (world.busy c)) (sym (asked g c)));
+}
   where
-    free : (s : ℕ) → (all s).0 ≡ Free
-    free s = at_rest (all s).0 (λ c. sym ((all s).1.commands c) ∙ ap (only s) (q.commands c)) (λ c o. sym ((all s).1.fills c o) ∙ ap (only s) (q.fills c o))
-        (λ c. sym ((all s).1.responses c) ∙ ap (only s) (q.responses c)) (subst (λ (transaction : Option Transaction). TransactionAt (all s).0 transaction) (ap (mine s) q.no_transaction) (all s).1.transaction)
+    free : (g : ℕ) → (all g).0 ≡ Free
+    free g = at_rest (all g).0 (λ c. sym ((all g).1.commands c) ∙ ap (of_group g) (q.commands c)) (λ c o. sym ((all g).1.fills c o)
+        ∙ ap (of_group g) (q.fills c o))
+        (λ c. sym ((all g).1.responses c) ∙ ap (of_group g) (q.responses c))
+        (subst (λ (transaction : Option Transaction). TransactionAt (all g).0 transaction) (ap (option_of_group g) q.no_transaction)
+        (all g).1.transaction)
 
-    good_pending : (s : ℕ) → w.pending s ≡ false
-    good_pending s = (all s).1.pending ∙ ap (λ (p : Phase). not (is_free p)) (free s)
+    good_pending : (g : ℕ) → world.pending g ≡ false
+    good_pending g = (all g).1.pending ∙ ap (λ (p : Phase). not (is_free p)) (free g)
 
-    asked : (s c : ℕ) → [] ≡ asks false (mine s (w.busy c))
-    asked s c = sym (ap (only s) (q.requests c)) ∙ (all s).1.requests c ∙ ap (λ (p : Phase). asks (is_taken p c) (mine s (w.busy c))) (free s)
+    asked : (g c : ℕ) → [] ≡ requests_of false (option_of_group g (world.busy c))
+    asked g c = sym (ap (of_group g) (q.requests c)) ∙ (all g).1.requests c
+        ∙ ap (λ (p : Phase). requests_of (is_taken p c) (option_of_group g (world.busy c))) (free g)

@@ -5,259 +5,329 @@ use mathlib.Core.Path.{fun_ext}
 use Rattle.bk_base.specs.Tables.{put}
 use Rattle.bk_machine.specs.Tables.{put2}
 use Rattle.bk_machine.specs.Entries.{Entry}
-use Rattle.bk_machine.specs.Messages.{Request, ToCache, FillMessage, Response, ToMemory, Block}
+use Rattle.bk_machine.specs.Messages.{Request, ToCache, FillMessage, Response, ToMemory, MemoryBlock}
 use Rattle.bk_machine.specs.Transactions.{InProgress, Transaction}
 use Rattle.bk_machine.specs.Words.{Completed}
-use Rattle.bk_machine.specs.World.{Group, World, only, mine, view}
-use Rattle.bk_machine.specs.Steps.{touched}
-use Rattle.bk_machine.proofs.View.{only-push, only-push_other, only-rest, mine-here, mine-other, put-here, put-other, chan-put, chan-put_same, chan2-put, chan2-put_same}
+use Rattle.bk_machine.specs.World.{GroupState, World, of_group, option_of_group, view}
+use Rattle.bk_machine.specs.Steps.{with_way_first}
+use Rattle.bk_machine.proofs.View.{of_group-push, of_group-push_other, of_group-rest, option_of_group-here, option_of_group-other, put-here, put-other, chan-put, chan-put_same, chan2-put, chan2-put_same}
 
--- the group s of the system is g
-pub record Seen (s : ℕ) (w : World) (g : Group) : Type 0 where
-  pub is : view s w ≡ g
+-- the group g of the system is part
+pub record Seen (g : ℕ) (world : World) (part : GroupState) : Type 0 where
+  pub is : view g world ≡ part
 
--- of the group s the list has these
-pub record Has {X : Type 0} (s : ℕ) (xs : List (ℕ × X)) (ys : List X) : Type 0 where
-  pub is : only s xs ≡ ys
+-- of the group g the list has these
+pub record Has {X : Type 0} (g : ℕ) (xs : List (ℕ × X)) (ys : List X) : Type 0 where
+  pub is : of_group g xs ≡ ys
 
-pub record Is {X : Type 0} (s : ℕ) (x : Option (ℕ × X)) (y : Option X) : Type 0 where
-  pub is : mine s x ≡ y
+pub record Is {X : Type 0} (g : ℕ) (x : Option (ℕ × X)) (y : Option X) : Type 0 where
+  pub is : option_of_group g x ≡ y
 
 -- of the group u two lists have the same
 pub record Keeps {X : Type 0} (u : ℕ) (xs ys : List (ℕ × X)) : Type 0 where
-  pub is : only u xs ≡ only u ys
+  pub is : of_group u xs ≡ of_group u ys
 
 pub record Stays {X : Type 0} (u : ℕ) (x y : Option (ℕ × X)) : Type 0 where
-  pub is : mine u x ≡ mine u y
+  pub is : option_of_group u x ≡ option_of_group u y
 
-pub seen : (s : ℕ) (w : World) → Seen s w (view s w)
-seen s w = record { is = refl }
+pub seen : (g : ℕ) (world : World) → Seen g world (view g world)
+seen g world = record { is = refl }
 
-pub pushed : {X : Type 0} (s : ℕ) (xs : List (ℕ × X)) (x : X) → Has s (xs ++ (s, x) ∷ []) (only s xs ++ x ∷ [])
-pushed s xs x = record { is = only-push s xs x }
+pub pushed : {X : Type 0} (g : ℕ) (xs : List (ℕ × X)) (x : X) → Has g (xs ++ (g, x) ∷ []) (of_group g xs ++ x ∷ [])
+pushed g xs x = record { is = of_group-push g xs x }
 
-pub left : {X : Type 0} (s : ℕ) (xs : List (ℕ × X)) → Has s xs (only s xs)
-left s xs = record { is = refl }
+pub left : {X : Type 0} (g : ℕ) (xs : List (ℕ × X)) → Has g xs (of_group g xs)
+left g xs = record { is = refl }
 
-pub pushed_other : {X : Type 0} (u s : ℕ) (xs : List (ℕ × X)) (x : X) → u ≢ s → Keeps u (xs ++ (s, x) ∷ []) xs
-pushed_other u s xs x n = record { is = only-push_other u s xs x n }
+pub pushed_other : {X : Type 0} (u g : ℕ) (xs : List (ℕ × X)) (x : X) → u ≢ g → Keeps u (xs ++ (g, x) ∷ []) xs
+pushed_other u g xs x n = record { is = of_group-push_other u g xs x n }
 
-pub left_other : {X : Type 0} (u s : ℕ) (xs rest : List (ℕ × X)) (x : X) → u ≢ s → xs ≡ (s, x) ∷ rest → Keeps u rest xs
-left_other u s xs rest x n e = record { is = only-rest u s xs rest x n e }
+pub left_other : {X : Type 0} (u g : ℕ) (xs rest : List (ℕ × X)) (x : X) → u ≢ g → xs ≡ (g, x) ∷ rest → Keeps u rest xs
+left_other u g xs rest x n e = record { is = of_group-rest u g xs rest x n e }
 
-pub some_is : {X : Type 0} (s : ℕ) (x : X) → Is s (Some (s, x)) (Some x)
-some_is s x = record { is = mine-here s x }
+pub some_is : {X : Type 0} (g : ℕ) (x : X) → Is g (Some (g, x)) (Some x)
+some_is g x = record { is = option_of_group-here g x }
 
-pub none_is : {X : Type 0} (s : ℕ) → Is {X = X} s None None
-none_is s = record { is = refl }
+pub none_is : {X : Type 0} (g : ℕ) → Is {X = X} g None None
+none_is g = record { is = refl }
 
--- a value of the group s in place of none or of one of the group s
-pub from_none : {X : Type 0} (u s : ℕ) (x : X) (y : Option (ℕ × X)) → u ≢ s → y ≡ None → Stays u (Some (s, x)) y
-from_none u s x y n e = record { is = mine-other u s x n ∙ sym (ap (mine u) e) }
+-- a value of the group g in place of none or of one of the group g
+pub from_none : {X : Type 0} (u g : ℕ) (x : X) (y : Option (ℕ × X)) → u ≢ g → y ≡ None → Stays u (Some (g, x)) y
+from_none u g x y n e = record { is = option_of_group-other u g x n ∙ sym (ap (option_of_group u) e) }
 
-pub from_some : {X : Type 0} (u s : ℕ) (x z : X) (y : Option (ℕ × X)) → u ≢ s → y ≡ Some (s, z) → Stays u (Some (s, x)) y
-from_some u s x z y n e = record { is = mine-other u s x n ∙ sym (ap (mine u) e ∙ mine-other u s z n) }
+pub from_some : {X : Type 0} (u g : ℕ) (x z : X) (y : Option (ℕ × X)) → u ≢ g → y ≡ Some (g, z) → Stays u (Some (g, x)) y
+from_some u g x z y n e = record { is = option_of_group-other u g x n ∙ sym (ap (option_of_group u) e ∙ option_of_group-other u g z n) }
 
-pub to_none : {X : Type 0} (u s : ℕ) (z : X) (y : Option (ℕ × X)) → u ≢ s → y ≡ Some (s, z) → Stays u None y
-to_none u s z y n e = record { is = sym (ap (mine u) e ∙ mine-other u s z n) }
+pub to_none : {X : Type 0} (u g : ℕ) (z : X) (y : Option (ℕ × X)) → u ≢ g → y ≡ Some (g, z) → Stays u None y
+to_none u g z y n e = record { is = sym (ap (option_of_group u) e ∙ option_of_group-other u g z n) }
 
-abbrev pub set_held : ℕ → (ℕ → ℕ → Entry) → World → World
-set_held s x w = record w { held = put w.held s x }
+-- ONE PART IS WRITTEN. `change` puts a value into that part of a group's state.
 
-pub held-here : (s : ℕ) (x : ℕ → ℕ → Entry) {w : World} {g : Group} → Seen s w g → Seen s (set_held s x w) (record g { held = x })
-held-here s x {w = w} e =
-    record { is = ap (λ (y : ℕ → ℕ → Entry). record (view s w) { held = y }) (put-here w.held s x) ∙ ap (λ (h : Group). record h { held = x }) e.is }
+-- The group's own part becomes y. Where that is z, and the group was part, it is part with z now.
+changed : {Y : Type 0} (change : GroupState → Y → GroupState) {g : ℕ} {v world : World} {part : GroupState} {y z : Y}
+    → view g v ≡ change (view g world) y → y ≡ z → Seen g world part → Seen g v (change part z)
+changed change e f k = record { is = e ∙ (λ i. change (k.is i) (f i)) }
 
-pub held-other : (u s : ℕ) (x : ℕ → ℕ → Entry) {w : World} {g : Group} → u ≢ s → Seen u w g → Seen u (set_held s x w) g
-held-other u s x {w = w} n e = record { is = ap (λ (y : ℕ → ℕ → Entry). record (view u w) { held = y }) (put-other w.held s u x n) ∙ e.is }
+-- What another group sees of the part becomes y. Where that is what it saw before, the group is as it was.
+unchanged : {Y : Type 0} (change : GroupState → Y → GroupState) {u : ℕ} {v world : World} {part : GroupState} {y z : Y}
+    → view u v ≡ change (view u world) y → y ≡ z → change (view u world) z ≡ view u world → Seen u world part
+    → Seen u v part
+unchanged change {u = u} {world = world} e f same k = record { is = e ∙ ap (change (view u world)) f ∙ same ∙ k.is }
+
+-- PARTS BY GROUP
+
+abbrev pub set_entries : ℕ → (ℕ → ℕ → Entry) → World → World
+set_entries g x world = record world { entries = put world.entries g x }
+
+pub entries-here : (g : ℕ) (x : ℕ → ℕ → Entry) {world : World} {part : GroupState} → Seen g world part
+    → Seen g (set_entries g x world) (record part { entries = x })
+entries-here g x {world = world} k = changed (λ (part : GroupState) (y : ℕ → ℕ → Entry). record part { entries = y }) refl
+    (put-here world.entries g x) k
+
+pub entries-other : (u g : ℕ) (x : ℕ → ℕ → Entry) {world : World} {part : GroupState} → u ≢ g → Seen u world part
+    → Seen u (set_entries g x world) part
+entries-other u g x {world = world} n k =
+    unchanged (λ (part : GroupState) (y : ℕ → ℕ → Entry). record part { entries = y }) refl
+    (put-other world.entries g u x n) refl k
 
 abbrev pub set_words : ℕ → (ℕ → ℕ → ℕ → ℕ) → World → World
-set_words s x w = record w { words = put w.words s x }
+set_words g x world = record world { words = put world.words g x }
 
-pub words-here : (s : ℕ) (x : ℕ → ℕ → ℕ → ℕ) {w : World} {g : Group} → Seen s w g → Seen s (set_words s x w) (record g { words = x })
-words-here s x {w = w} e =
-    record { is = ap (λ (y : ℕ → ℕ → ℕ → ℕ). record (view s w) { words = y }) (put-here w.words s x) ∙ ap (λ (h : Group). record h { words = x }) e.is }
+pub words-here : (g : ℕ) (x : ℕ → ℕ → ℕ → ℕ) {world : World} {part : GroupState} → Seen g world part
+    → Seen g (set_words g x world) (record part { words = x })
+words-here g x {world = world} k = changed (λ (part : GroupState) (y : ℕ → ℕ → ℕ → ℕ). record part { words = y }) refl
+    (put-here world.words g x) k
 
-pub words-other : (u s : ℕ) (x : ℕ → ℕ → ℕ → ℕ) {w : World} {g : Group} → u ≢ s → Seen u w g → Seen u (set_words s x w) g
-words-other u s x {w = w} n e = record { is = ap (λ (y : ℕ → ℕ → ℕ → ℕ). record (view u w) { words = y }) (put-other w.words s u x n) ∙ e.is }
+pub words-other : (u g : ℕ) (x : ℕ → ℕ → ℕ → ℕ) {world : World} {part : GroupState} → u ≢ g → Seen u world part
+    → Seen u (set_words g x world) part
+words-other u g x {world = world} n k =
+    unchanged (λ (part : GroupState) (y : ℕ → ℕ → ℕ → ℕ). record part { words = y }) refl
+    (put-other world.words g u x n) refl k
 
 abbrev pub set_directory : ℕ → (ℕ → ℕ → Entry) → World → World
-set_directory s x w = record w { directory = put w.directory s x }
+set_directory g x world = record world { directory = put world.directory g x }
 
-pub directory-here : (s : ℕ) (x : ℕ → ℕ → Entry) {w : World} {g : Group} → Seen s w g → Seen s (set_directory s x w) (record g { directory = x })
-directory-here s x {w = w} e =
-    record { is = ap (λ (y : ℕ → ℕ → Entry). record (view s w) { directory = y }) (put-here w.directory s x) ∙ ap (λ (h : Group). record h { directory = x }) e.is }
+pub directory-here : (g : ℕ) (x : ℕ → ℕ → Entry) {world : World} {part : GroupState} → Seen g world part
+    → Seen g (set_directory g x world) (record part { directory = x })
+directory-here g x {world = world} k =
+    changed (λ (part : GroupState) (y : ℕ → ℕ → Entry). record part { directory = y }) refl (put-here world.directory g x) k
 
-pub directory-other : (u s : ℕ) (x : ℕ → ℕ → Entry) {w : World} {g : Group} → u ≢ s → Seen u w g → Seen u (set_directory s x w) g
-directory-other u s x {w = w} n e = record { is = ap (λ (y : ℕ → ℕ → Entry). record (view u w) { directory = y }) (put-other w.directory s u x n) ∙ e.is }
+pub directory-other : (u g : ℕ) (x : ℕ → ℕ → Entry) {world : World} {part : GroupState} → u ≢ g → Seen u world part
+    → Seen u (set_directory g x world) part
+directory-other u g x {world = world} n k =
+    unchanged (λ (part : GroupState) (y : ℕ → ℕ → Entry). record part { directory = y }) refl
+    (put-other world.directory g u x n) refl k
 
-abbrev pub set_pending : ℕ → (Bool) → World → World
-set_pending s x w = record w { pending = put w.pending s x }
+abbrev pub set_pending : ℕ → Bool → World → World
+set_pending g b world = record world { pending = put world.pending g b }
 
-pub pending-here : (s : ℕ) (x : Bool) {w : World} {g : Group} → Seen s w g → Seen s (set_pending s x w) (record g { pending = x })
-pending-here s x {w = w} e =
-    record { is = ap (λ (y : Bool). record (view s w) { pending = y }) (put-here w.pending s x) ∙ ap (λ (h : Group). record h { pending = x }) e.is }
+pub pending-here : (g : ℕ) (b : Bool) {world : World} {part : GroupState} → Seen g world part
+    → Seen g (set_pending g b world) (record part { pending = b })
+pending-here g b {world = world} k = changed (λ (part : GroupState) (y : Bool). record part { pending = y }) refl
+    (put-here world.pending g b) k
 
-pub pending-other : (u s : ℕ) (x : Bool) {w : World} {g : Group} → u ≢ s → Seen u w g → Seen u (set_pending s x w) g
-pending-other u s x {w = w} n e = record { is = ap (λ (y : Bool). record (view u w) { pending = y }) (put-other w.pending s u x n) ∙ e.is }
+pub pending-other : (u g : ℕ) (b : Bool) {world : World} {part : GroupState} → u ≢ g → Seen u world part
+    → Seen u (set_pending g b world) part
+pending-other u g b {world = world} n k =
+    unchanged (λ (part : GroupState) (y : Bool). record part { pending = y }) refl (put-other world.pending g u b n) refl k
 
 abbrev pub set_memory : ℕ → (ℕ → ℕ → ℕ) → World → World
-set_memory s x w = record w { memory = put w.memory s x }
+set_memory g x world = record world { memory = put world.memory g x }
 
-pub memory-here : (s : ℕ) (x : ℕ → ℕ → ℕ) {w : World} {g : Group} → Seen s w g → Seen s (set_memory s x w) (record g { memory = x })
-memory-here s x {w = w} e =
-    record { is = ap (λ (y : ℕ → ℕ → ℕ). record (view s w) { memory = y }) (put-here w.memory s x) ∙ ap (λ (h : Group). record h { memory = x }) e.is }
+pub memory-here : (g : ℕ) (x : ℕ → ℕ → ℕ) {world : World} {part : GroupState} → Seen g world part
+    → Seen g (set_memory g x world) (record part { memory = x })
+memory-here g x {world = world} k = changed (λ (part : GroupState) (y : ℕ → ℕ → ℕ). record part { memory = y }) refl
+    (put-here world.memory g x) k
 
-pub memory-other : (u s : ℕ) (x : ℕ → ℕ → ℕ) {w : World} {g : Group} → u ≢ s → Seen u w g → Seen u (set_memory s x w) g
-memory-other u s x {w = w} n e = record { is = ap (λ (y : ℕ → ℕ → ℕ). record (view u w) { memory = y }) (put-other w.memory s u x n) ∙ e.is }
+pub memory-other : (u g : ℕ) (x : ℕ → ℕ → ℕ) {world : World} {part : GroupState} → u ≢ g → Seen u world part
+    → Seen u (set_memory g x world) part
+memory-other u g x {world = world} n k =
+    unchanged (λ (part : GroupState) (y : ℕ → ℕ → ℕ). record part { memory = y }) refl (put-other world.memory g u x n) refl k
 
-abbrev pub set_taken : ℕ → (ℕ) → World → World
-set_taken s x w = record w { taken = put w.taken s x }
+abbrev pub set_taken_count : ℕ → ℕ → World → World
+set_taken_count g n world = record world { taken_count = put world.taken_count g n }
 
-pub taken-here : (s : ℕ) (x : ℕ) {w : World} {g : Group} → Seen s w g → Seen s (set_taken s x w) (record g { taken = x })
-taken-here s x {w = w} e =
-    record { is = ap (λ (y : ℕ). record (view s w) { taken = y }) (put-here w.taken s x) ∙ ap (λ (h : Group). record h { taken = x }) e.is }
+pub taken_count-here : (g : ℕ) (n : ℕ) {world : World} {part : GroupState} → Seen g world part
+    → Seen g (set_taken_count g n world) (record part { taken_count = n })
+taken_count-here g n {world = world} k = changed (λ (part : GroupState) (y : ℕ). record part { taken_count = y }) refl
+    (put-here world.taken_count g n) k
 
-pub taken-other : (u s : ℕ) (x : ℕ) {w : World} {g : Group} → u ≢ s → Seen u w g → Seen u (set_taken s x w) g
-taken-other u s x {w = w} n e = record { is = ap (λ (y : ℕ). record (view u w) { taken = y }) (put-other w.taken s u x n) ∙ e.is }
+pub taken_count-other : (u g : ℕ) (number : ℕ) {world : World} {part : GroupState} → u ≢ g → Seen u world part
+    → Seen u (set_taken_count g number world) part
+taken_count-other u g number {world = world} n k =
+    unchanged (λ (part : GroupState) (y : ℕ). record part { taken_count = y }) refl (put-other world.taken_count g u number n) refl k
 
-abbrev pub set_settled : ℕ → (ℕ) → World → World
-set_settled s x w = record w { settled = put w.settled s x }
+abbrev pub set_settled_count : ℕ → ℕ → World → World
+set_settled_count g n world = record world { settled_count = put world.settled_count g n }
 
-pub settled-here : (s : ℕ) (x : ℕ) {w : World} {g : Group} → Seen s w g → Seen s (set_settled s x w) (record g { settled = x })
-settled-here s x {w = w} e =
-    record { is = ap (λ (y : ℕ). record (view s w) { settled = y }) (put-here w.settled s x) ∙ ap (λ (h : Group). record h { settled = x }) e.is }
+pub settled_count-here : (g : ℕ) (n : ℕ) {world : World} {part : GroupState} → Seen g world part
+    → Seen g (set_settled_count g n world) (record part { settled_count = n })
+settled_count-here g n {world = world} k =
+    changed (λ (part : GroupState) (y : ℕ). record part { settled_count = y }) refl (put-here world.settled_count g n) k
 
-pub settled-other : (u s : ℕ) (x : ℕ) {w : World} {g : Group} → u ≢ s → Seen u w g → Seen u (set_settled s x w) g
-settled-other u s x {w = w} n e = record { is = ap (λ (y : ℕ). record (view u w) { settled = y }) (put-other w.settled s u x n) ∙ e.is }
+pub settled_count-other : (u g : ℕ) (number : ℕ) {world : World} {part : GroupState} → u ≢ g → Seen u world part
+    → Seen u (set_settled_count g number world) part
+settled_count-other u g number {world = world} n k =
+    unchanged (λ (part : GroupState) (y : ℕ). record part { settled_count = y }) refl (put-other world.settled_count g u number n) refl k
+
+-- PARTS BY CACHE: the channels, and the operations in progress
 
 abbrev pub set_request : ℕ → List (ℕ × Request) → World → World
-set_request c xs w = record w { request = put w.request c xs }
+set_request c xs world = record world { request = put world.request c xs }
 
-pub request-here : (s c : ℕ) {xs : List (ℕ × Request)} {ys : List Request} {w : World} {g : Group} → Has s xs ys → Seen s w g
-    → Seen s (set_request c xs w) (record g { request = put g.request c ys })
-request-here s c {xs = xs} {ys = ys} {w = w} k e = record {
-  is =
-      ap (λ (y : ℕ → List Request). record (view s w) { request = y }) (chan-put (only s) w.request c xs ∙ ap (put (λ i. only s (w.request i)) c) k.is) ∙ ap (λ (h : Group). record h { request = put h.request c ys }) e.is;
-}
+pub request-here : (g c : ℕ) {xs : List (ℕ × Request)} {ys : List Request} {world : World} {part : GroupState} → Has g xs ys
+    → Seen g world part
+    → Seen g (set_request c xs world) (record part { request = put part.request c ys })
+request-here g c {xs = xs} {world = world} e k =
+    changed (λ (part : GroupState) (z : List Request). record part { request = put part.request c z })
+    (ap (λ (z : ℕ → List Request). record (view g world) { request = z }) (chan-put (of_group g) world.request c xs)) e.is k
 
-pub request-other : (u c : ℕ) {xs : List (ℕ × Request)} {w : World} {g : Group} → Keeps u xs (w.request c) → Seen u w g → Seen u (set_request c xs w) g
-request-other u c {xs = xs} {w = w} k e =
-    record { is = ap (λ (y : ℕ → List Request). record (view u w) { request = y }) (chan-put_same (only u) w.request c xs k.is) ∙ e.is }
+pub request-other : (u c : ℕ) {xs : List (ℕ × Request)} {world : World} {part : GroupState} → Keeps u xs (world.request c)
+    → Seen u world part
+    → Seen u (set_request c xs world) part
+request-other u c {xs = xs} {world = world} e k =
+    unchanged (λ (part : GroupState) (z : ℕ → List Request). record part { request = z }) refl
+    (chan-put_same (of_group u) world.request c xs e.is) refl k
 
 abbrev pub set_command : ℕ → List (ℕ × ToCache) → World → World
-set_command c xs w = record w { command = put w.command c xs }
+set_command c xs world = record world { command = put world.command c xs }
 
-pub command-here : (s c : ℕ) {xs : List (ℕ × ToCache)} {ys : List ToCache} {w : World} {g : Group} → Has s xs ys → Seen s w g
-    → Seen s (set_command c xs w) (record g { command = put g.command c ys })
-command-here s c {xs = xs} {ys = ys} {w = w} k e = record {
-  is =
-      ap (λ (y : ℕ → List ToCache). record (view s w) { command = y }) (chan-put (only s) w.command c xs ∙ ap (put (λ i. only s (w.command i)) c) k.is) ∙ ap (λ (h : Group). record h { command = put h.command c ys }) e.is;
-}
+pub command-here : (g c : ℕ) {xs : List (ℕ × ToCache)} {ys : List ToCache} {world : World} {part : GroupState} → Has g xs ys
+    → Seen g world part
+    → Seen g (set_command c xs world) (record part { command = put part.command c ys })
+command-here g c {xs = xs} {world = world} e k =
+    changed (λ (part : GroupState) (z : List ToCache). record part { command = put part.command c z })
+    (ap (λ (z : ℕ → List ToCache). record (view g world) { command = z }) (chan-put (of_group g) world.command c xs)) e.is k
 
-pub command-other : (u c : ℕ) {xs : List (ℕ × ToCache)} {w : World} {g : Group} → Keeps u xs (w.command c) → Seen u w g → Seen u (set_command c xs w) g
-command-other u c {xs = xs} {w = w} k e =
-    record { is = ap (λ (y : ℕ → List ToCache). record (view u w) { command = y }) (chan-put_same (only u) w.command c xs k.is) ∙ e.is }
+pub command-other : (u c : ℕ) {xs : List (ℕ × ToCache)} {world : World} {part : GroupState} → Keeps u xs (world.command c)
+    → Seen u world part
+    → Seen u (set_command c xs world) part
+command-other u c {xs = xs} {world = world} e k =
+    unchanged (λ (part : GroupState) (z : ℕ → List ToCache). record part { command = z }) refl
+    (chan-put_same (of_group u) world.command c xs e.is) refl k
 
 abbrev pub set_response : ℕ → List (ℕ × Response) → World → World
-set_response c xs w = record w { response = put w.response c xs }
+set_response c xs world = record world { response = put world.response c xs }
 
-pub response-here : (s c : ℕ) {xs : List (ℕ × Response)} {ys : List Response} {w : World} {g : Group} → Has s xs ys → Seen s w g
-    → Seen s (set_response c xs w) (record g { response = put g.response c ys })
-response-here s c {xs = xs} {ys = ys} {w = w} k e = record {
-  is =
-      ap (λ (y : ℕ → List Response). record (view s w) { response = y }) (chan-put (only s) w.response c xs ∙ ap (put (λ i. only s (w.response i)) c) k.is) ∙ ap (λ (h : Group). record h { response = put h.response c ys }) e.is;
-}
+pub response-here : (g c : ℕ) {xs : List (ℕ × Response)} {ys : List Response} {world : World} {part : GroupState} → Has g xs ys
+    → Seen g world part
+    → Seen g (set_response c xs world) (record part { response = put part.response c ys })
+response-here g c {xs = xs} {world = world} e k =
+    changed (λ (part : GroupState) (z : List Response). record part { response = put part.response c z })
+    (ap (λ (z : ℕ → List Response). record (view g world) { response = z }) (chan-put (of_group g) world.response c xs)) e.is k
 
-pub response-other : (u c : ℕ) {xs : List (ℕ × Response)} {w : World} {g : Group} → Keeps u xs (w.response c) → Seen u w g → Seen u (set_response c xs w) g
-response-other u c {xs = xs} {w = w} k e =
-    record { is = ap (λ (y : ℕ → List Response). record (view u w) { response = y }) (chan-put_same (only u) w.response c xs k.is) ∙ e.is }
+pub response-other : (u c : ℕ) {xs : List (ℕ × Response)} {world : World} {part : GroupState} → Keeps u xs (world.response c)
+    → Seen u world part
+    → Seen u (set_response c xs world) part
+response-other u c {xs = xs} {world = world} e k =
+    unchanged (λ (part : GroupState) (z : ℕ → List Response). record part { response = z }) refl
+    (chan-put_same (of_group u) world.response c xs e.is) refl k
 
 abbrev pub set_fill : ℕ → ℕ → List (ℕ × FillMessage) → World → World
-set_fill c o xs w = record w { fill = put2 w.fill c o xs }
+set_fill c o xs world = record world { fill = put2 world.fill c o xs }
 
-pub fill-here : (s c o : ℕ) {xs : List (ℕ × FillMessage)} {ys : List FillMessage} {w : World} {g : Group} → Has s xs ys → Seen s w g
-    → Seen s (set_fill c o xs w) (record g { fill = put2 g.fill c o ys })
-fill-here s c o {xs = xs} {ys = ys} {w = w} k e = record {
-  is =
-      ap (λ (y : ℕ → ℕ → List FillMessage). record (view s w) { fill = y }) (chan2-put (only s) w.fill c o xs ∙ ap (put2 (λ i j. only s (w.fill i j)) c o) k.is) ∙ ap (λ (h : Group). record h { fill = put2 h.fill c o ys }) e.is;
-}
+pub fill-here : (g c o : ℕ) {xs : List (ℕ × FillMessage)} {ys : List FillMessage} {world : World} {part : GroupState} → Has g xs ys
+    → Seen g world part
+    → Seen g (set_fill c o xs world) (record part { fill = put2 part.fill c o ys })
+fill-here g c o {xs = xs} {world = world} e k =
+    changed (λ (part : GroupState) (z : List FillMessage). record part { fill = put2 part.fill c o z })
+    (ap (λ (z : ℕ → ℕ → List FillMessage). record (view g world) { fill = z }) (chan2-put (of_group g) world.fill c o xs)) e.is k
 
-pub fill-other : (u c o : ℕ) {xs : List (ℕ × FillMessage)} {w : World} {g : Group} → Keeps u xs (w.fill c o) → Seen u w g → Seen u (set_fill c o xs w) g
-fill-other u c o {xs = xs} {w = w} k e =
-    record { is = ap (λ (y : ℕ → ℕ → List FillMessage). record (view u w) { fill = y }) (chan2-put_same (only u) w.fill c o xs k.is) ∙ e.is }
+pub fill-other : (u c o : ℕ) {xs : List (ℕ × FillMessage)} {world : World} {part : GroupState} → Keeps u xs (world.fill c o)
+    → Seen u world part
+    → Seen u (set_fill c o xs world) part
+fill-other u c o {xs = xs} {world = world} e k =
+    unchanged (λ (part : GroupState) (z : ℕ → ℕ → List FillMessage). record part { fill = z }) refl
+    (chan2-put_same (of_group u) world.fill c o xs e.is) refl k
 
 abbrev pub set_busy : ℕ → Option (ℕ × InProgress) → World → World
-set_busy c x w = record w { busy = put w.busy c x }
+set_busy c x world = record world { busy = put world.busy c x }
 
-pub busy-here : (s c : ℕ) {x : Option (ℕ × InProgress)} {y : Option InProgress} {w : World} {g : Group} → Is s x y → Seen s w g
-    → Seen s (set_busy c x w) (record g { busy = put g.busy c y })
-busy-here s c {x = x} {y = y} {w = w} k e = record {
-  is =
-      ap (λ (z : ℕ → Option InProgress). record (view s w) { busy = z }) (chan-put (mine s) w.busy c x ∙ ap (put (λ i. mine s (w.busy i)) c) k.is) ∙ ap (λ (h : Group). record h { busy = put h.busy c y }) e.is;
-}
+pub busy-here : (g c : ℕ) {x : Option (ℕ × InProgress)} {y : Option InProgress} {world : World} {part : GroupState} → Is g x y
+    → Seen g world part
+    → Seen g (set_busy c x world) (record part { busy = put part.busy c y })
+busy-here g c {x = x} {world = world} e k =
+    changed (λ (part : GroupState) (z : Option InProgress). record part { busy = put part.busy c z })
+    (ap (λ (z : ℕ → Option InProgress). record (view g world) { busy = z }) (chan-put (option_of_group g) world.busy c x)) e.is k
 
-pub busy-other : (u c : ℕ) {x : Option (ℕ × InProgress)} {w : World} {g : Group} → Stays u x (w.busy c) → Seen u w g → Seen u (set_busy c x w) g
-busy-other u c {x = x} {w = w} k e =
-    record { is = ap (λ (y : ℕ → Option InProgress). record (view u w) { busy = y }) (chan-put_same (mine u) w.busy c x k.is) ∙ e.is }
+pub busy-other : (u c : ℕ) {x : Option (ℕ × InProgress)} {world : World} {part : GroupState} → Stays u x (world.busy c)
+    → Seen u world part
+    → Seen u (set_busy c x world) part
+busy-other u c {x = x} {world = world} e k =
+    unchanged (λ (part : GroupState) (z : ℕ → Option InProgress). record part { busy = z }) refl
+    (chan-put_same (option_of_group u) world.busy c x e.is) refl k
+
+-- PARTS WITHOUT AN INDEX
 
 abbrev pub set_transaction : Option (ℕ × Transaction) → World → World
-set_transaction x w = record w { transaction = x }
+set_transaction x world = record world { transaction = x }
 
-pub transaction-here : (s : ℕ) {x : Option (ℕ × Transaction)} {y : Option Transaction} {w : World} {g : Group} → Is s x y → Seen s w g
-    → Seen s (set_transaction x w) (record g { transaction = y })
-transaction-here s {y = y} {w = w} k e =
-    record { is = ap (λ (z : Option Transaction). record (view s w) { transaction = z }) k.is ∙ ap (λ (h : Group). record h { transaction = y }) e.is }
+pub transaction-here : (g : ℕ) {x : Option (ℕ × Transaction)} {y : Option Transaction} {world : World} {part : GroupState} → Is g x y
+    → Seen g world part
+    → Seen g (set_transaction x world) (record part { transaction = y })
+transaction-here g e k = changed (λ (part : GroupState) (z : Option Transaction). record part { transaction = z }) refl e.is k
 
-pub transaction-other : (u : ℕ) {x : Option (ℕ × Transaction)} {w : World} {g : Group} → Stays u x w.transaction → Seen u w g → Seen u (set_transaction x w) g
-transaction-other u {w = w} k e = record { is = ap (λ (z : Option Transaction). record (view u w) { transaction = z }) k.is ∙ e.is }
+pub transaction-other : (u : ℕ) {x : Option (ℕ × Transaction)} {world : World} {part : GroupState} → Stays u x world.transaction
+    → Seen u world part
+    → Seen u (set_transaction x world) part
+transaction-other u e k = unchanged (λ (part : GroupState) (z : Option Transaction). record part { transaction = z }) refl e.is refl k
 
 abbrev pub set_memout : List (ℕ × ToMemory) → World → World
-set_memout xs w = record w { memout = xs }
+set_memout xs world = record world { memout = xs }
 
-pub memout-here : (s : ℕ) {xs : List (ℕ × ToMemory)} {ys : List ToMemory} {w : World} {g : Group} → Has s xs ys → Seen s w g
-    → Seen s (set_memout xs w) (record g { memout = ys })
-memout-here s {ys = ys} {w = w} k e =
-    record { is = ap (λ (z : List ToMemory). record (view s w) { memout = z }) k.is ∙ ap (λ (h : Group). record h { memout = ys }) e.is }
+pub memout-here : (g : ℕ) {xs : List (ℕ × ToMemory)} {ys : List ToMemory} {world : World} {part : GroupState} → Has g xs ys
+    → Seen g world part
+    → Seen g (set_memout xs world) (record part { memout = ys })
+memout-here g e k = changed (λ (part : GroupState) (z : List ToMemory). record part { memout = z }) refl e.is k
 
-pub memout-other : (u : ℕ) {xs : List (ℕ × ToMemory)} {w : World} {g : Group} → Keeps u xs w.memout → Seen u w g → Seen u (set_memout xs w) g
-memout-other u {w = w} k e = record { is = ap (λ (z : List ToMemory). record (view u w) { memout = z }) k.is ∙ e.is }
+pub memout-other : (u : ℕ) {xs : List (ℕ × ToMemory)} {world : World} {part : GroupState} → Keeps u xs world.memout
+    → Seen u world part
+    → Seen u (set_memout xs world) part
+memout-other u e k = unchanged (λ (part : GroupState) (z : List ToMemory). record part { memout = z }) refl e.is refl k
 
-abbrev pub set_memin : List (ℕ × Block) → World → World
-set_memin xs w = record w { memin = xs }
+abbrev pub set_memin : List (ℕ × MemoryBlock) → World → World
+set_memin xs world = record world { memin = xs }
 
-pub memin-here : (s : ℕ) {xs : List (ℕ × Block)} {ys : List Block} {w : World} {g : Group} → Has s xs ys → Seen s w g
-    → Seen s (set_memin xs w) (record g { memin = ys })
-memin-here s {ys = ys} {w = w} k e =
-    record { is = ap (λ (z : List Block). record (view s w) { memin = z }) k.is ∙ ap (λ (h : Group). record h { memin = ys }) e.is }
+pub memin-here : (g : ℕ) {xs : List (ℕ × MemoryBlock)} {ys : List MemoryBlock} {world : World} {part : GroupState} → Has g xs ys
+    → Seen g world part
+    → Seen g (set_memin xs world) (record part { memin = ys })
+memin-here g e k = changed (λ (part : GroupState) (z : List MemoryBlock). record part { memin = z }) refl e.is k
 
-pub memin-other : (u : ℕ) {xs : List (ℕ × Block)} {w : World} {g : Group} → Keeps u xs w.memin → Seen u w g → Seen u (set_memin xs w) g
-memin-other u {w = w} k e = record { is = ap (λ (z : List Block). record (view u w) { memin = z }) k.is ∙ e.is }
+pub memin-other : (u : ℕ) {xs : List (ℕ × MemoryBlock)} {world : World} {part : GroupState} → Keeps u xs world.memin
+    → Seen u world part
+    → Seen u (set_memin xs world) part
+memin-other u e k = unchanged (λ (part : GroupState) (z : List MemoryBlock). record part { memin = z }) refl e.is refl k
 
 abbrev pub set_history : List (ℕ × Completed) → World → World
-set_history xs w = record w { history = xs }
+set_history xs world = record world { history = xs }
 
-pub history-here : (s : ℕ) {xs : List (ℕ × Completed)} {ys : List Completed} {w : World} {g : Group} → Has s xs ys → Seen s w g
-    → Seen s (set_history xs w) (record g { history = ys })
-history-here s {ys = ys} {w = w} k e =
-    record { is = ap (λ (z : List Completed). record (view s w) { history = z }) k.is ∙ ap (λ (h : Group). record h { history = ys }) e.is }
+pub history-here : (g : ℕ) {xs : List (ℕ × Completed)} {ys : List Completed} {world : World} {part : GroupState} → Has g xs ys
+    → Seen g world part
+    → Seen g (set_history xs world) (record part { history = ys })
+history-here g e k = changed (λ (part : GroupState) (z : List Completed). record part { history = z }) refl e.is k
 
-pub history-other : (u : ℕ) {xs : List (ℕ × Completed)} {w : World} {g : Group} → Keeps u xs w.history → Seen u w g → Seen u (set_history xs w) g
-history-other u {w = w} k e = record { is = ap (λ (z : List Completed). record (view u w) { history = z }) k.is ∙ e.is }
+pub history-other : (u : ℕ) {xs : List (ℕ × Completed)} {world : World} {part : GroupState} → Keeps u xs world.history
+    → Seen u world part
+    → Seen u (set_history xs world) part
+history-other u e k = unchanged (λ (part : GroupState) (z : List Completed). record part { history = z }) refl e.is refl k
 
 -- all command channels at once
 abbrev pub set_commands : (ℕ → List (ℕ × ToCache)) → World → World
-set_commands f w = record w { command = f }
+set_commands f world = record world { command = f }
 
-pub commands-here : (s : ℕ) (f : ℕ → List (ℕ × ToCache)) (h : ℕ → List ToCache) {w : World} {g : Group} → ((c : ℕ) → only s (f c) ≡ h c) → Seen s w g
-    → Seen s (set_commands f w) (record g { command = h })
-commands-here s f h {w = w} k e =
-    record { is = ap (λ (y : ℕ → List ToCache). record (view s w) { command = y }) (fun_ext k) ∙ ap (λ (g : Group). record g { command = h }) e.is }
+pub commands-here : (g : ℕ) (f : ℕ → List (ℕ × ToCache)) (h : ℕ → List ToCache) {world : World} {part : GroupState}
+    → ((c : ℕ) → of_group g (f c) ≡ h c)
+    → Seen g world part
+    → Seen g (set_commands f world) (record part { command = h })
+commands-here g f h e k = changed (λ (part : GroupState) (z : ℕ → List ToCache). record part { command = z }) refl (fun_ext e) k
 
-pub commands-other : (u : ℕ) (f : ℕ → List (ℕ × ToCache)) {w : World} {g : Group} → ((c : ℕ) → only u (f c) ≡ only u (w.command c)) → Seen u w g
-    → Seen u (set_commands f w) g
-commands-other u f {w = w} k e = record { is = ap (λ (y : ℕ → List ToCache). record (view u w) { command = y }) (fun_ext k) ∙ e.is }
+pub commands-other : (u : ℕ) (f : ℕ → List (ℕ × ToCache)) {world : World} {part : GroupState}
+    → ((c : ℕ) → of_group u (f c) ≡ of_group u (world.command c))
+    → Seen u world part
+    → Seen u (set_commands f world) part
+commands-other u f e k = unchanged (λ (part : GroupState) (z : ℕ → List ToCache). record part { command = z }) refl (fun_ext e) refl k
 
 -- recency is no part of a group's facts
-pub touched-seen : (s c v : ℕ) {u : ℕ} {w : World} {g : Group} → Seen u w g → Seen u (touched s c v w) g
-touched-seen s c v e = record { is = e.is }
+pub way_first-seen : (g c w : ℕ) {u : ℕ} {world : World} {part : GroupState} → Seen u world part
+    → Seen u (with_way_first g c w world) part
+way_first-seen g c w e = record { is = e.is }

@@ -1,13 +1,13 @@
 -- The permitted actions of the engine: what it may do with its transaction, when, and what that changes.
-use Rattle.std.specs.Prelude.{ℕ, ◌≡◌, ◌≢◌, ◌<◌, ◌⊎◌, ◌+◌, Bool, true, false, cond, eqb, List, [], ◌∷◌, ◌++◌, Option, Some, None, length}
+use Rattle.std.specs.Prelude.{ℕ, ◌≡◌, ◌≢◌, ◌<◌, ◌⊎◌, ◌+◌, Bool, true, false, List, [], ◌∷◌, ◌++◌, Option, Some, None, length, if◌then◌else◌, ◌==◌}
 use Rattle.bk_base.specs.Places.{Shape}
 use Rattle.bk_base.specs.Tables.{put}
 use Rattle.bk_base.specs.declared.coh.Coh.{Coh}
 use Rattle.bk_base.specs.declared.coh.Coh.TheVariants.{I, S, E, F, M, O}
 use Rattle.bk_machine.specs.Tables.{put2}
-use Rattle.bk_machine.specs.Entries.{Entry, with_state, wiped_all, times, is_light}
-use Rattle.bk_machine.specs.Messages.{Request, Wr, UcRd, UcWr, EvictRequest, ToCache, Inv, StWb, StTr, Blk, StWake, UcBlk, UcDone, Done, Response, InvAck, CohAck, Read, Write, WriteWord, Block, answer_of, request_tag, request_way, request_suits, asks_block, asks_read}
-use Rattle.bk_machine.specs.Transactions.{Idle, Asked, Kept, NotRead, ReadAsked, Got, Debt, Transaction, fresh, remove_one, brought, is_asked}
+use Rattle.bk_machine.specs.Entries.{Entry, with_state, wiped_in_caches, times, is_light}
+use Rattle.bk_machine.specs.Messages.{Request, Wr, UcRd, UcWr, EvictRequest, ToCache, Inv, StWb, StTr, Blk, StWake, UcBlk, UcDone, EvictDone, Response, InvAck, CohAck, Read, Write, WriteWord, MemoryBlock, answer_of, request_tag, request_way, request_suits, asks_block, asks_read}
+use Rattle.bk_machine.specs.Transactions.{Idle, FlushAsked, FlushKept, NotRead, ReadAsked, Got, Debt, Transaction, new_transaction, remove_one, write_back_after, is_asked}
 use Rattle.bk_machine.specs.Directory.{own, own_way, owner, owner_way, owner_state, others, victim}
 use Rattle.bk_machine.specs.World.{World}
 
@@ -18,12 +18,12 @@ pub data Action : Type 0 where
   Settles : (cache tag : ℕ) → (rest : List (ℕ × Response)) → Action
   CollectsAck : (cache tag : ℕ) → (rest : List (ℕ × Response)) → Transaction → Action
   CollectsAnswer : (cache tag : ℕ) → (words : Option (ℕ → ℕ)) → (rest : List (ℕ × Response)) → Transaction → Action
-  CollectsBlock : (tag : ℕ) → (words : ℕ → ℕ) → (rest : List (ℕ × Block)) → Transaction → Action
+  CollectsBlock : (tag : ℕ) → (words : ℕ → ℕ) → (rest : List (ℕ × MemoryBlock)) → Transaction → Action
   Invalidates : (with_owner : Bool) → (to : List ℕ) → Transaction → Action
   FlushesVictim : Transaction → Action
   FlushesOwn : (way : ℕ) → (to : Coh) → Transaction → Action
   FlushesOwner : (owner way : ℕ) → (to : Coh) → Transaction → Action
-  WritesBack : Block → Transaction → Action
+  WritesBack : MemoryBlock → Transaction → Action
   ReadsMemory : Transaction → Action
   WritesWord : (tag word value : ℕ) → Transaction → Action
   GrantsByBlock : (words : ℕ → ℕ) → (state : Coh) → Transaction → Action
@@ -44,20 +44,20 @@ abbrev pub NoGranted : Option (ℕ × Transaction) → Type 0
 NoGranted None = Unit {0}
 NoGranted (Some x) = x.1.granted ≡ false
 
--- x is the transaction, of group s, and isn't granted
-pub record Ungranted (s : ℕ) (x : Transaction) (w : World) : Type 0 where
-  pub is : w.transaction ≡ Some (s, x)
+-- x is the transaction, of group g, and isn't granted
+pub record Ungranted (g : ℕ) (x : Transaction) (world : World) : Type 0 where
+  pub is : world.transaction ≡ Some (g, x)
   pub ungranted : x.granted ≡ false
 
 -- and no flush is under way or kept, and all acks have come: what each grant and answer waits for
-pub record Ready (s : ℕ) (x : Transaction) (w : World) : Type 0 where
-  pub ungranted : Ungranted s x w
+pub record Ready (g : ℕ) (x : Transaction) (world : World) : Type 0 where
+  pub ungranted : Ungranted g x world
   pub idle : x.write_back ≡ Idle
   pub acked : x.waiting ≡ []
 
--- x is the transaction, of group s, and is granted
-pub record Granted (s : ℕ) (x : Transaction) (w : World) : Type 0 where
-  pub is : w.transaction ≡ Some (s, x)
+-- x is the transaction, of group g, and is granted
+pub record Granted (g : ℕ) (x : Transaction) (world : World) : Type 0 where
+  pub is : world.transaction ≡ Some (g, x)
   pub granted : x.granted ≡ true
 
 -- own, owner, others and victim for a transaction, in the directory of its group as it is at the moment
@@ -79,27 +79,27 @@ others_for k d x = others k.caches k.ways d x.cache (request_tag x.request)
 abbrev pub victim_for : (ℕ → ℕ → Entry) → Transaction → Coh
 victim_for d x = victim (asks_block x.request) d x.cache (request_tag x.request) (request_way x.request)
 
--- the owner is cache o, with its entry at way v
-pub record OwnerAt (k : Shape) (d : ℕ → ℕ → Entry) (x : Transaction) (o v : ℕ) : Type 0 where
+-- the owner is cache o, with its entry at way w
+pub record OwnerAt (k : Shape) (d : ℕ → ℕ → Entry) (x : Transaction) (o w : ℕ) : Type 0 where
   pub is_owner : owner_for k d x ≡ Some o
-  pub is_way : owner_way k.ways d (request_tag x.request) o ≡ Some v
+  pub is_way : owner_way k.ways d (request_tag x.request) o ≡ Some w
 
 -- whom an invalidation goes to: others, and by choice the owner too where it isn't among them
-abbrev pub with_owner_to : Option ℕ → List ℕ → List ℕ
-with_owner_to None os = os
-with_owner_to (Some c) os = cond (eqb (times c os) 0) (c ∷ os) os
+abbrev pub targets_with_owner : Option ℕ → List ℕ → List ℕ
+targets_with_owner None os = os
+targets_with_owner (Some c) os = if times c os == 0 then c ∷ os else os
 
-abbrev pub sent_to : Bool → Option ℕ → List ℕ → List ℕ
-sent_to false o os = os
-sent_to true o os = with_owner_to o os
+abbrev pub invalidation_targets : Bool → Option ℕ → List ℕ → List ℕ
+invalidation_targets false o os = os
+invalidation_targets true o os = targets_with_owner o os
 
 -- owner none, or in F
 abbrev pub NoneOrForward : Coh → Type 0
-NoneOrForward x = (x ≡ I) ⊎ (x ≡ F)
+NoneOrForward state = (state ≡ I) ⊎ (state ≡ F)
 
 -- the states that a flush may leave
 abbrev pub FlushState : Coh → Type 0
-FlushState x = (x ≡ I) ⊎ (x ≡ S)
+FlushState state = (state ≡ I) ⊎ (state ≡ S)
 
 -- The state that a block may be granted in, by owner (I for none) and others: E and M where no other cache has an entry,
 -- F where there is no owner, S where there is none or one in F.
@@ -126,132 +126,168 @@ may_pair _ _ _ = false
 
 abbrev pub Permitted : Shape → ℕ → Action → World → Type 0
 -- take: no transaction; the group of a request channel's head isn't pending
-Permitted k s (Takes c q rest) w = (w.transaction ≡ None) × (w.request c ≡ (s, q) ∷ rest) × (w.pending s ≡ false)
+Permitted k g (Takes c q rest) world = (world.transaction ≡ None) × (world.request c ≡ (g, q) ∷ rest) × (world.pending g ≡ false)
 -- settle: no granted transaction; a response head is CohAck
-Permitted k s (Settles c t rest) w = NoGranted w.transaction × w.response c ≡ (s, CohAck t) ∷ rest
+Permitted k g (Settles c t rest) world = NoGranted world.transaction × world.response c ≡ (g, CohAck t) ∷ rest
 -- collect: ungranted; InvAck with acks above 0, or Wb or NullWb with a flush asked, or Block with a read asked
-Permitted k s (CollectsAck c t rest x) w = Ungranted s x w × (w.response c ≡ (s, InvAck t) ∷ rest) × (0 < length x.waiting)
-Permitted k s (CollectsAnswer c t ws rest x) w = Ungranted s x w × (w.response c ≡ (s, answer_of t ws) ∷ rest) × (x.write_back ≡ Asked)
-Permitted k s (CollectsBlock t ws rest x) w = Ungranted s x w × (w.memin ≡ (s, record { tag = t; words = ws }) ∷ rest) × (x.reading ≡ ReadAsked)
+Permitted k g (CollectsAck c t rest x) world = Ungranted g x world × (world.response c ≡ (g, InvAck t) ∷ rest)
+    × (0 < length x.waiting)
+Permitted k g (CollectsAnswer c t ws rest x) world = Ungranted g x world × (world.response c ≡ (g, answer_of t ws) ∷ rest)
+    × (x.write_back ≡ FlushAsked)
+Permitted k g (CollectsBlock t ws rest x) world = Ungranted g x world × (world.memin ≡ (g, record { tag = t; words = ws }) ∷ rest)
+    × (x.reading ≡ ReadAsked)
 -- invalidate: ungranted; to others, and by choice to an owner in F
-Permitted k s (Invalidates f to x) w =
-    Ungranted s x w × (to ≡ sent_to f (owner_for k (w.directory s) x) (others_for k (w.directory s) x))
-    × (f ≡ true → NoneOrForward (owner_state_for k (w.directory s) x))
+Permitted k g (Invalidates f to x) world =
+    Ungranted g x world × (to ≡ invalidation_targets f (owner_for k (world.directory g) x) (others_for k (world.directory g) x))
+    × (f ≡ true → NoneOrForward (owner_state_for k (world.directory g) x))
 -- flush victim: ungranted, no flush, victim heavy
-Permitted k s (FlushesVictim x) w = Ungranted s x w × (x.write_back ≡ Idle) × (is_light (victim_for (w.directory s) x) ≡ false)
+Permitted k g (FlushesVictim x) world = Ungranted g x world × (x.write_back ≡ Idle)
+    × (is_light (victim_for (world.directory g) x) ≡ false)
 -- flush own: ungranted, no flush, own valid, and not S where the new state is S
-Permitted k s (FlushesOwn v y x) w =
-    Ungranted s x w × (x.write_back ≡ Idle) × (own_way_for k (w.directory s) x ≡ Some v) × FlushState y × (y ≡ S → own_for k (w.directory s) x ≢ S)
+Permitted k g (FlushesOwn v y x) world =
+    Ungranted g x world × (x.write_back ≡ Idle) × (own_way_for k (world.directory g) x ≡ Some v) × FlushState y
+    × (y ≡ S → own_for k (world.directory g) x ≢ S)
 -- flush owner: ungranted, no flush, there is an owner
-Permitted k s (FlushesOwner o v y x) w = Ungranted s x w × (x.write_back ≡ Idle) × OwnerAt k (w.directory s) x o v × FlushState y
+Permitted k g (FlushesOwner o v y x) world = Ungranted g x world × (x.write_back ≡ Idle) × OwnerAt k (world.directory g) x o v
+    × FlushState y
 -- write back: a block is kept
-Permitted k s (WritesBack b x) w = (w.transaction ≡ Some (s, x)) × (x.write_back ≡ Kept b)
+Permitted k g (WritesBack b x) world = (world.transaction ≡ Some (g, x)) × (x.write_back ≡ FlushKept b)
 -- read memory: ungranted Rd, Wr or UcRd; not read, no flush; owner none or F; own I, S or F
-Permitted k s (ReadsMemory x) w =
-    Ungranted s x w × (asks_read x.request ≡ true) × (x.reading ≡ NotRead) × (x.write_back ≡ Idle) × NoneOrForward (owner_state_for k (w.directory s) x)
-    × (is_light (own_for k (w.directory s) x) ≡ true)
+Permitted k g (ReadsMemory x) world =
+    Ungranted g x world × (asks_read x.request ≡ true)
+    × (x.reading ≡ NotRead) × (x.write_back ≡ Idle) × NoneOrForward (owner_state_for k (world.directory g) x)
+    × (is_light (own_for k (world.directory g) x) ≡ true)
 -- write word: ungranted UcWr, word not written; own I, owner none, others empty, acks 0, no flush, not read
-Permitted k s (WritesWord t i n x) w =
-    Ready s x w × (x.request ≡ UcWr t i n) × (x.written ≡ false) × (own_for k (w.directory s) x ≡ I) × (owner_for k (w.directory s) x ≡ None)
-    × (others_for k (w.directory s) x ≡ []) × (x.reading ≡ NotRead)
+Permitted k g (WritesWord t i n x) world =
+    Ready g x world × (x.request ≡ UcWr t i n)
+    × (x.written ≡ false) × (own_for k (world.directory g) x ≡ I) × (owner_for k (world.directory g) x ≡ None)
+    × (others_for k (world.directory g) x ≡ []) × (x.reading ≡ NotRead)
 -- grant by block: ungranted, acks 0, no flush, block got, victim light; the kind, the state granted, owner and others agree
-Permitted k s (GrantsByBlock ws y x) w =
-    Ready s x w × (x.reading ≡ Got ws) × (is_light (victim_for (w.directory s) x) ≡ true) × (request_suits x.request y ≡ true)
-    × BlockSuits y (owner_state_for k (w.directory s) x) (others_for k (w.directory s) x)
+Permitted k g (GrantsByBlock ws y x) world =
+    Ready g x world × (x.reading ≡ Got ws) × (is_light (victim_for (world.directory g) x) ≡ true)
+    × (request_suits x.request y ≡ true)
+    × BlockSuits y (owner_state_for k (world.directory g) x) (others_for k (world.directory g) x)
 -- grant by wake: ungranted Wr, acks 0, no flush, no read asked; own S, F or O; owner none, others empty
-Permitted k s (GrantsByWake t v x) w =
-    Ready s x w × (x.request ≡ Wr t v) × (is_asked x.reading ≡ false)
-    × ((own_for k (w.directory s) x ≡ S) ⊎ ((own_for k (w.directory s) x ≡ F) ⊎ (own_for k (w.directory s) x ≡ O)))
-    × (owner_for k (w.directory s) x ≡ None) × (others_for k (w.directory s) x ≡ [])
+Permitted k g (GrantsByWake t v x) world =
+    Ready g x world × (x.request ≡ Wr t v) × (is_asked x.reading ≡ false)
+    × ((own_for k (world.directory g) x ≡ S) ⊎ ((own_for k (world.directory g) x ≡ F) ⊎ (own_for k (world.directory g) x ≡ O)))
+    × (owner_for k (world.directory g) x ≡ None) × (others_for k (world.directory g) x ≡ [])
 -- grant by transfer: ungranted, acks 0, no flush, no read asked, victim light; there is an owner; the pair is allowed and suits
 -- the kind; others empty for M
-Permitted k s (GrantsByTransfer o v y z x) w =
-    Ready s x w × (is_asked x.reading ≡ false) × (is_light (victim_for (w.directory s) x) ≡ true) × OwnerAt k (w.directory s) x o v
-    × (may_pair (owner_state_for k (w.directory s) x) y z ≡ true) × (request_suits x.request z ≡ true) × (z ≡ M → others_for k (w.directory s) x ≡ [])
+Permitted k g (GrantsByTransfer o v y z x) world =
+    Ready g x world × (is_asked x.reading ≡ false) × (is_light (victim_for (world.directory g) x) ≡ true)
+    × OwnerAt k (world.directory g) x o v
+    × (may_pair (owner_state_for k (world.directory g) x) y z ≡ true) × (request_suits x.request z ≡ true)
+    × (z ≡ M → others_for k (world.directory g) x ≡ [])
 -- answer: ungranted, acks 0, no flush; UcRd with the block got, or UcWr with the word written, or Evict with own I
-Permitted k s (AnswersWord t i ws x) w = Ready s x w × (x.request ≡ UcRd t i) × (x.reading ≡ Got ws)
-Permitted k s (AnswersStore t i n x) w = Ready s x w × (x.request ≡ UcWr t i n) × (x.written ≡ true)
-Permitted k s (AnswersEvict t v x) w = Ready s x w × (x.request ≡ EvictRequest t v) × (own_for k (w.directory s) x ≡ I)
+Permitted k g (AnswersWord t i ws x) world = Ready g x world × (x.request ≡ UcRd t i) × (x.reading ≡ Got ws)
+Permitted k g (AnswersStore t i n x) world = Ready g x world × (x.request ≡ UcWr t i n) × (x.written ≡ true)
+Permitted k g (AnswersEvict t v x) world = Ready g x world × (x.request ≡ EvictRequest t v) × (own_for k (world.directory g) x ≡ I)
 -- pay: a debt is unpaid
-Permitted k s (PaysRequester d x) w = (w.transaction ≡ Some (s, x)) × (x.requester_debt ≡ Some d)
-Permitted k s (PaysOwner d x) w = (w.transaction ≡ Some (s, x)) × (x.owner_debt ≡ Some d)
+Permitted k g (PaysRequester d x) world = (world.transaction ≡ Some (g, x)) × (x.requester_debt ≡ Some d)
+Permitted k g (PaysOwner d x) world = (world.transaction ≡ Some (g, x)) × (x.owner_debt ≡ Some d)
 -- finish: granted, both debts paid
-Permitted k s (Finishes x) w = Granted s x w × (x.requester_debt ≡ None) × (x.owner_debt ≡ None)
+Permitted k g (Finishes x) world = Granted g x world × (x.requester_debt ≡ None) × (x.owner_debt ≡ None)
 -- idle: always
-Permitted k s Idles w = Unit {0}
+Permitted k g Idles world = Unit {0}
 
 -- THE TABLE: what an action changes
 
 abbrev pub with_transaction : ℕ → Transaction → World → World
-with_transaction s x w = record w { transaction = Some (s, x) }
+with_transaction g x world = record world { transaction = Some (g, x) }
 
 -- a command goes to the end of its channel
-abbrev pub sends : ℕ → ℕ → ToCache → World → World
-sends s c m w = record w { command = put w.command c (w.command c ++ (s, m) ∷ []) }
+abbrev pub with_command_sent : ℕ → ℕ → ToCache → World → World
+with_command_sent g c m world = record world { command = put world.command c (world.command c ++ (g, m) ∷ []) }
 
 -- StWb to an entry's cache, for its block: the entry takes the state, and the flush is asked
-abbrev pub flushes : ℕ → ℕ → ℕ → ℕ → Coh → Transaction → World → World
-flushes s o v t y x w =
-    with_transaction s (record x { write_back = Asked })
-    (sends s o (StWb t y) (record w { directory = put w.directory s (put2 (w.directory s) o v (with_state (w.directory s o v) y)) }))
+abbrev pub with_flush : ℕ → ℕ → ℕ → ℕ → Coh → Transaction → World → World
+with_flush g o w t y x world =
+    with_transaction g (record x { write_back = FlushAsked })
+    (with_command_sent g o (StWb t y)
+    (record world { directory = put world.directory g (put2 (world.directory g) o w (with_state (world.directory g o w) y)) }))
 
 -- the requester's entry has still to become the block in the state granted
-abbrev pub requester_owes : Transaction → Coh → Option Debt
-requester_owes x y = Some (record { cache = x.cache; way = request_way x.request; held = record { tag = request_tag x.request; state = y } })
+abbrev pub debt_of_requester : Transaction → Coh → Option Debt
+debt_of_requester x y =
+    Some (record { cache = x.cache; way = request_way x.request; entry = record { tag = request_tag x.request; state = y } })
 
 -- the owner's entry has still to take the state
-abbrev pub owner_owes : ℕ → ℕ → Transaction → Coh → Option Debt
-owner_owes o v x y = Some (record { cache = o; way = v; held = record { tag = request_tag x.request; state = y } })
+abbrev pub debt_of_owner : ℕ → ℕ → Transaction → Coh → Option Debt
+debt_of_owner o w x y = Some (record { cache = o; way = w; entry = record { tag = request_tag x.request; state = y } })
 
 abbrev pub action_after : ℕ → Action → World → World
 -- take: the head removed, a transaction begun, the group pending, taken grows
-action_after s (Takes c q rest) w =
-    record w { request = put w.request c rest; transaction = Some (s, fresh c q); pending = put w.pending s true; taken = put w.taken s (w.taken s + 1) }
+action_after g (Takes c q rest) world =
+    record world {
+      request = put world.request c rest;
+      transaction = Some (g, new_transaction c q);
+      pending = put world.pending g true;
+      taken_count = put world.taken_count g (world.taken_count g + 1);
+    }
 -- settle: the head removed, its group not pending, settled grows
-action_after s (Settles c t rest) w =
-    record w { response = put w.response c rest; pending = put w.pending s false; settled = put w.settled s (w.settled s + 1) }
+action_after g (Settles c t rest) world =
+    record world {
+      response = put world.response c rest;
+      pending = put world.pending g false;
+      settled_count = put world.settled_count g (world.settled_count g + 1);
+    }
 -- collect: the head removed; acks less one, or the block kept, or no flush, or the block got
-action_after s (CollectsAck c t rest x) w = with_transaction s (record x { waiting = remove_one c x.waiting }) (record w { response = put w.response c rest })
-action_after s (CollectsAnswer c t ws rest x) w = with_transaction s (record x { write_back = brought t ws }) (record w { response = put w.response c rest })
-action_after s (CollectsBlock t ws rest x) w = with_transaction s (record x { reading = Got ws }) (record w { memin = rest })
+action_after g (CollectsAck c t rest x) world =
+    with_transaction g (record x { waiting = remove_one c x.waiting }) (record world { response = put world.response c rest })
+action_after g (CollectsAnswer c t ws rest x) world =
+    with_transaction g (record x { write_back = write_back_after t ws }) (record world { response = put world.response c rest })
+action_after g (CollectsBlock t ws rest x) world = with_transaction g (record x { reading = Got ws }) (record world { memin = rest })
 -- invalidate: an Inv to each, their entries I, acks more by their number
-action_after s (Invalidates f to x) w = with_transaction s (record x { waiting = x.waiting ++ to }) (record w {
-  directory = put w.directory s (wiped_all to (request_tag x.request) (w.directory s));
-  command = λ c. cond (eqb (times c to) 1) (w.command c ++ (s, Inv (request_tag x.request)) ∷ []) (w.command c);
+action_after g (Invalidates f to x) world = with_transaction g (record x { waiting = x.waiting ++ to }) (record world {
+  directory = put world.directory g (wiped_in_caches to (request_tag x.request) (world.directory g));
+  command = λ c. if times c to == 1 then world.command c ++ (g, Inv (request_tag x.request)) ∷ [] else world.command c;
 })
 -- flush: StWb to I, or to I or S
-action_after s (FlushesVictim x) w = flushes s x.cache (request_way x.request) (w.directory s x.cache (request_way x.request)).tag I x w
-action_after s (FlushesOwn v y x) w = flushes s x.cache v (request_tag x.request) y x w
-action_after s (FlushesOwner o v y x) w = flushes s o v (request_tag x.request) y x w
+action_after g (FlushesVictim x) world =
+    with_flush g x.cache (request_way x.request) (world.directory g x.cache (request_way x.request)).tag I x world
+action_after g (FlushesOwn v y x) world = with_flush g x.cache v (request_tag x.request) y x world
+action_after g (FlushesOwner o v y x) world = with_flush g o v (request_tag x.request) y x world
 -- write back: Write, no flush
-action_after s (WritesBack b x) w = with_transaction s (record x { write_back = Idle }) (record w { memout = w.memout ++ (s, Write b.tag b.words) ∷ [] })
+action_after g (WritesBack b x) world =
+    with_transaction g (record x { write_back = Idle }) (record world { memout = world.memout ++ (g, Write b.tag b.words) ∷ [] })
 -- read memory: Read, the read asked
-action_after s (ReadsMemory x) w =
-    with_transaction s (record x { reading = ReadAsked }) (record w { memout = w.memout ++ (s, Read (request_tag x.request)) ∷ [] })
+action_after g (ReadsMemory x) world =
+    with_transaction g (record x { reading = ReadAsked })
+    (record world { memout = world.memout ++ (g, Read (request_tag x.request)) ∷ [] })
 -- write word: WriteWord, the word written
-action_after s (WritesWord t i n x) w = with_transaction s (record x { written = true }) (record w { memout = w.memout ++ (s, WriteWord t i n) ∷ [] })
+action_after g (WritesWord t i n x) world =
+    with_transaction g (record x { written = true }) (record world { memout = world.memout ++ (g, WriteWord t i n) ∷ [] })
 -- grant by block: Blk, granted, the requester's debt
-action_after s (GrantsByBlock ws y x) w =
-    with_transaction s (record x { granted = true; requester_debt = requester_owes x y })
-    (sends s x.cache (Blk (request_tag x.request) (request_way x.request) y ws) w)
+action_after g (GrantsByBlock ws y x) world =
+    with_transaction g (record x { granted = true; requester_debt = debt_of_requester x y })
+    (with_command_sent g x.cache (Blk (request_tag x.request) (request_way x.request) y ws) world)
 -- grant by wake: StWake, granted, the requester's debt of M
-action_after s (GrantsByWake t v x) w =
-    with_transaction s (record x { granted = true; requester_debt = Some (record { cache = x.cache; way = v; held = record { tag = t; state = M } }) })
-    (sends s x.cache (StWake t v) w)
+action_after g (GrantsByWake t v x) world =
+    with_transaction g (record x {
+      granted = true;
+      requester_debt = Some (record { cache = x.cache; way = v; entry = record { tag = t; state = M } });
+    })
+    (with_command_sent g x.cache (StWake t v) world)
 -- grant by transfer: StTr to the owner, granted, the debts of both
-action_after s (GrantsByTransfer o v y z x) w =
-    with_transaction s (record x { granted = true; requester_debt = requester_owes x z; owner_debt = owner_owes o v x y })
-    (sends s o (StTr (request_tag x.request) y x.cache (request_way x.request) z) w)
+action_after g (GrantsByTransfer o v y z x) world =
+    with_transaction g (record x { granted = true; requester_debt = debt_of_requester x z; owner_debt = debt_of_owner o v x y })
+    (with_command_sent g o (StTr (request_tag x.request) y x.cache (request_way x.request) z) world)
 -- answer: UcBlk with the word, UcDone or Done; granted
-action_after s (AnswersWord t i ws x) w = with_transaction s (record x { granted = true }) (sends s x.cache (UcBlk t i (ws i)) w)
-action_after s (AnswersStore t i n x) w = with_transaction s (record x { granted = true }) (sends s x.cache (UcDone t i) w)
-action_after s (AnswersEvict t v x) w = with_transaction s (record x { granted = true }) (sends s x.cache (Done t) w)
+action_after g (AnswersWord t i ws x) world =
+    with_transaction g (record x { granted = true }) (with_command_sent g x.cache (UcBlk t i (ws i)) world)
+action_after g (AnswersStore t i n x) world =
+    with_transaction g (record x { granted = true }) (with_command_sent g x.cache (UcDone t i) world)
+action_after g (AnswersEvict t v x) world =
+    with_transaction g (record x { granted = true }) (with_command_sent g x.cache (EvictDone t) world)
 -- pay: the entry becomes what is owed, and the debt is paid
-action_after s (PaysRequester d x) w =
-    with_transaction s (record x { requester_debt = None }) (record w { directory = put w.directory s (put2 (w.directory s) d.cache d.way d.held) })
-action_after s (PaysOwner d x) w =
-    with_transaction s (record x { owner_debt = None }) (record w { directory = put w.directory s (put2 (w.directory s) d.cache d.way d.held) })
+action_after g (PaysRequester d x) world =
+    with_transaction g (record x { requester_debt = None })
+    (record world { directory = put world.directory g (put2 (world.directory g) d.cache d.way d.entry) })
+action_after g (PaysOwner d x) world =
+    with_transaction g (record x { owner_debt = None })
+    (record world { directory = put world.directory g (put2 (world.directory g) d.cache d.way d.entry) })
 -- finish: no transaction
-action_after s (Finishes x) w = record w { transaction = None }
+action_after g (Finishes x) world = record world { transaction = None }
 -- idle: nothing
-action_after s Idles w = w
+action_after g Idles world = world

@@ -1,6 +1,7 @@
 pub mod Actions
-pub mod CacheTable
+pub mod CacheSteps
 pub mod Claims
+pub mod Copies
 pub mod Directory
 pub mod Entries
 pub mod Example
@@ -14,5 +15,6 @@ pub mod SecondExample
 pub mod Steps
 pub mod Tables
 pub mod Transactions
+pub mod Values
 pub mod Words
 pub mod World

@@ -27,7 +27,7 @@ pub data ToCache : Type 0 where
   StWake : (tag way : ℕ) → ToCache
   UcBlk : (tag word value : ℕ) → ToCache
   UcDone : (tag word : ℕ) → ToCache
-  Done : (tag : ℕ) → ToCache
+  EvictDone : (tag : ℕ) → ToCache
 
 -- from a cache to another: the fill network has one kind
 pub record FillMessage : Type 0 where
@@ -50,7 +50,7 @@ pub data ToMemory : Type 0 where
   WriteWord : (tag word value : ℕ) → ToMemory
 
 -- from the memory to the engine; also a block that the engine keeps
-pub record Block : Type 0 where
+pub record MemoryBlock : Type 0 where
   pub tag : ℕ
   pub words : ℕ → ℕ
 
@@ -110,11 +110,11 @@ asks_read (EvictRequest t w) = false
 
 -- the states that a request may be granted: Rd any that a load may read, Wr any that a store may write
 abbrev pub request_suits : Request → Coh → Bool
-request_suits (Rd t w) x = is_readable x
-request_suits (Wr t w) x = is_writable x
-request_suits (UcRd t k) x = false
-request_suits (UcWr t k v) x = false
-request_suits (EvictRequest t w) x = false
+request_suits (Rd t w) state = is_readable state
+request_suits (Wr t w) state = is_writable state
+request_suits (UcRd t k) state = false
+request_suits (UcWr t k v) state = false
+request_suits (EvictRequest t w) state = false
 
 -- what a cache answers to StWb: Wb with the words of a dirty copy, else NullWb
 abbrev pub answer_of : ℕ → Option (ℕ → ℕ) → Response

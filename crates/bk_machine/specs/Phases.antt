@@ -1,10 +1,10 @@
 -- The phase of a way group: where its one request that is taken and not settled stands. A phase tells what each channel of the
 -- group holds, so no message needs to be counted. The machine doesn't keep phases: the invariant says that there is one.
-use Rattle.std.specs.Prelude.{ℕ, Bool, true, false, cond, eqb, ◌&&◌, List, [], ◌∷◌, ◌++◌, Option, Some, None}
+use Rattle.std.specs.Prelude.{ℕ, Bool, true, false, ◌&&◌, List, [], ◌∷◌, ◌++◌, Option, Some, None, if◌then◌else◌, ◌==◌}
 use Rattle.bk_base.specs.declared.coh.Coh.{Coh}
 use Rattle.bk_base.specs.declared.coh.Coh.TheVariants.{M}
-use Rattle.bk_machine.specs.Entries.{Entry, with_state, wiped}
-use Rattle.bk_machine.specs.Messages.{Op, Load, Store, UcLoad, UcStore, Evict, Request, ToCache, Inv, StWb, StTr, Blk, StWake, UcBlk, UcDone, Done, FillMessage, Response, InvAck, CohAck, op_tag, op_word, request_of, answer_of}
+use Rattle.bk_machine.specs.Entries.{Entry, with_state, wiped_entry}
+use Rattle.bk_machine.specs.Messages.{Op, Load, Store, UcLoad, UcStore, Evict, Request, ToCache, Inv, StWb, StTr, Blk, StWake, UcBlk, UcDone, EvictDone, FillMessage, Response, InvAck, CohAck, op_tag, op_word, request_of, answer_of}
 use Rattle.bk_machine.specs.Transactions.{InProgress}
 
 -- where a flush stands: none; StWb sent to the entry (cache, way) of the tag; answered, with words (Wb) or none (NullWb)
@@ -38,7 +38,7 @@ pub data Phase : Type 0 where
 
 -- x where the cache is o
 abbrev pub at_cache : {X : Type 0} → ℕ → ℕ → X → List X
-at_cache c o x = cond (eqb c o) (x ∷ []) []
+at_cache c o x = if c == o then x ∷ [] else []
 
 -- the StWb of a flush
 abbrev pub flush_command : Flush → ℕ → List ToCache
@@ -54,11 +54,11 @@ inv_command t InvAcked = []
 
 -- UcDone, or Done for an Evict
 abbrev pub uncached_done : Op → ToCache
-uncached_done (Load t k) = Done t
-uncached_done (Store t k v) = Done t
-uncached_done (UcLoad t k) = Done t
+uncached_done (Load t k) = EvictDone t
+uncached_done (Store t k v) = EvictDone t
+uncached_done (UcLoad t k) = EvictDone t
 uncached_done (UcStore t k v) = UcDone t k
-uncached_done (Evict t) = Done t
+uncached_done (Evict t) = EvictDone t
 
 -- the command of a grant
 abbrev pub flight_command : Flight → ℕ → InProgress → ℕ → List ToCache
@@ -81,7 +81,8 @@ abbrev pub flight_fill : Flight → ℕ → InProgress → ℕ → ℕ → List 
 flight_fill (ByBlock x ws) r b to from = []
 flight_fill ByWake r b to from = []
 flight_fill (ByTransfer o ow y x) r b to from = []
-flight_fill (ByFill o x ws) r b to from = cond (eqb to r && eqb from o) (record { tag = op_tag b.op; way = b.way; state = x; words = ws } ∷ []) []
+flight_fill (ByFill o x ws) r b to from = if to == r && from == o
+    then record { tag = op_tag b.op; way = b.way; state = x; words = ws } ∷ [] else []
 flight_fill (ByWord v) r b to from = []
 flight_fill ByDone r b to from = []
 
@@ -114,43 +115,43 @@ responses_of (Settling r t) c = at_cache c r (CohAck t)
 -- the request of this cache is taken
 abbrev pub is_taken : Phase → ℕ → Bool
 is_taken Free c = false
-is_taken (Open r b fl inv) c = eqb c r
-is_taken (Flying r b f) c = eqb c r
+is_taken (Open r b fl inv) c = c == r
+is_taken (Flying r b f) c = c == r
 is_taken (Settling r t) c = false
 
 -- requests: a busy cache has its one request in its channel, unless it is taken
-abbrev pub asks : Bool → Option InProgress → List Request
-asks taken None = []
-asks true (Some b) = []
-asks false (Some b) = request_of b.op b.way ∷ []
+abbrev pub requests_of : Bool → Option InProgress → List Request
+requests_of taken None = []
+requests_of true (Some b) = []
+requests_of false (Some b) = request_of b.op b.way ∷ []
 
 -- WHAT THE COMMANDS AND FILLS ON THEIR WAY WILL MAKE OF THE ENTRY OF CACHE c AT WAY w
 
 -- a StWb gives its entry its state
 abbrev pub flush_effect : Flush → ℕ → ℕ → Entry → Entry
 flush_effect NoFlush c w h = h
-flush_effect (FlushSent o ow t x) c w h = cond (eqb c o && eqb w ow) (with_state h x) h
+flush_effect (FlushSent o ow t x) c w h = if c == o && w == ow then with_state h x else h
 flush_effect (FlushDone o t ws) c w h = h
 
 -- an Inv wipes the block
 abbrev pub inv_effect : ℕ → Ack → Entry → Entry
 inv_effect t NoInv h = h
-inv_effect t InvSent h = wiped t h
+inv_effect t InvSent h = wiped_entry t h
 inv_effect t InvAcked h = h
 
 -- a grant makes the requester's entry the block, and a transfer lowers the owner's
 abbrev pub flight_effect : Flight → ℕ → InProgress → ℕ → ℕ → Entry → Entry
-flight_effect (ByBlock x ws) r b c w h = cond (eqb c r && eqb w b.way) (record { tag = op_tag b.op; state = x }) h
-flight_effect ByWake r b c w h = cond (eqb c r && eqb w b.way) (record { tag = op_tag b.op; state = M }) h
+flight_effect (ByBlock x ws) r b c w h = if c == r && w == b.way then record { tag = op_tag b.op; state = x } else h
+flight_effect ByWake r b c w h = if c == r && w == b.way then record { tag = op_tag b.op; state = M } else h
 flight_effect (ByTransfer o ow y x) r b c w h =
-    cond (eqb c r && eqb w b.way) (record { tag = op_tag b.op; state = x }) (cond (eqb c o && eqb w ow) (with_state h y) h)
-flight_effect (ByFill o x ws) r b c w h = cond (eqb c r && eqb w b.way) (record { tag = op_tag b.op; state = x }) h
+    if c == r && w == b.way then record { tag = op_tag b.op; state = x } else if c == o && w == ow then with_state h y else h
+flight_effect (ByFill o x ws) r b c w h = if c == r && w == b.way then record { tag = op_tag b.op; state = x } else h
 flight_effect (ByWord v) r b c w h = h
 flight_effect ByDone r b c w h = h
 
 -- the entry once all of it has come
-abbrev pub expected : Phase → ℕ → ℕ → Entry → Entry
-expected Free c w h = h
-expected (Open r b fl inv) c w h = inv_effect (op_tag b.op) (inv c) (flush_effect fl c w h)
-expected (Flying r b f) c w h = flight_effect f r b c w h
-expected (Settling r t) c w h = h
+abbrev pub expected_entry : Phase → ℕ → ℕ → Entry → Entry
+expected_entry Free c w h = h
+expected_entry (Open r b fl inv) c w h = inv_effect (op_tag b.op) (inv c) (flush_effect fl c w h)
+expected_entry (Flying r b f) c w h = flight_effect f r b c w h
+expected_entry (Settling r t) c w h = h

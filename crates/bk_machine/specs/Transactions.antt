@@ -1,7 +1,7 @@
 -- The one transaction of the engine: the request that it serves, and how far it has come.
-use Rattle.std.specs.Prelude.{ℕ, Bool, true, false, cond, eqb, ◌&&◌, List, [], ◌∷◌, Option, Some, None}
+use Rattle.std.specs.Prelude.{ℕ, Bool, true, false, ◌&&◌, List, [], ◌∷◌, Option, Some, None, if◌then◌else◌, ◌==◌}
 use Rattle.bk_machine.specs.Entries.{Entry}
-use Rattle.bk_machine.specs.Messages.{Op, Request, Block, request_of}
+use Rattle.bk_machine.specs.Messages.{Op, Request, MemoryBlock, request_of}
 
 -- an operation that a cache has begun, and the way that it has set apart: 0 for an uncached one
 pub record InProgress : Type 0 where
@@ -10,8 +10,8 @@ pub record InProgress : Type 0 where
 
 -- a flush: none is asked for, one is sent and not yet answered, or its Wb has come and its block is kept
 pub data WriteBack : Type 0 where
-  Idle Asked : WriteBack
-  Kept : Block → WriteBack
+  Idle FlushAsked : WriteBack
+  FlushKept : MemoryBlock → WriteBack
 
 -- the read of memory: none was asked for, one is sent, or its words have come
 pub data Reading : Type 0 where
@@ -22,7 +22,7 @@ pub data Reading : Type 0 where
 pub record Debt : Type 0 where
   pub cache : ℕ
   pub way : ℕ
-  pub held : Entry
+  pub entry : Entry
 
 -- The transaction record. `waiting` lists the caches whose InvAck is to come: its length is the engine's count of acks.
 -- A debt that is none is paid.
@@ -38,9 +38,19 @@ pub record Transaction : Type 0 where
   pub owner_debt : Option Debt
 
 -- a transaction as it begins
-abbrev pub fresh : ℕ → Request → Transaction
-fresh c q =
-    record { cache = c; request = q; granted = false; write_back = Idle; reading = NotRead; written = false; waiting = []; requester_debt = None; owner_debt = None }
+abbrev pub new_transaction : ℕ → Request → Transaction
+new_transaction c q =
+    record {
+      cache = c;
+      request = q;
+      granted = false;
+      write_back = Idle;
+      reading = NotRead;
+      written = false;
+      waiting = [];
+      requester_debt = None;
+      owner_debt = None;
+    }
 
 -- a transaction that isn't granted, for an operation in progress: it has no debts
 abbrev pub open_transaction : ℕ → InProgress → WriteBack → Reading → Bool → List ℕ → Transaction
@@ -73,24 +83,24 @@ granted_transaction r b rd wr own owner = record {
 -- a list without the first place where a number stands
 abbrev pub remove_one : ℕ → List ℕ → List ℕ
 remove_one c [] = []
-remove_one c (x ∷ xs) = cond (eqb c x) xs (x ∷ remove_one c xs)
+remove_one c (x ∷ xs) = if c == x then xs else x ∷ remove_one c xs
 
 -- what the answer to a flush leaves: a Wb's block is kept, after a NullWb there is none
-abbrev pub brought : ℕ → Option (ℕ → ℕ) → WriteBack
-brought t None = Idle
-brought t (Some ws) = Kept (record { tag = t; words = ws })
+abbrev pub write_back_after : ℕ → Option (ℕ → ℕ) → WriteBack
+write_back_after t None = Idle
+write_back_after t (Some ws) = FlushKept (record { tag = t; words = ws })
 
 abbrev pub is_asked : Reading → Bool
 is_asked NotRead = false
 is_asked ReadAsked = true
 is_asked (Got ws) = false
 
--- The directory once the debts are paid. The invariant speaks of it: between a grant and its `pay` the bare directory is behind.
+-- The directory once the debts are paid. The invariant speaks of it: between a grant and the two payments the bare directory is behind.
 
-abbrev pub pay : Option Debt → (ℕ → ℕ → Entry) → ℕ → ℕ → Entry
-pay None directory c w = directory c w
-pay (Some d) directory c w = cond (eqb c d.cache && eqb w d.way) d.held (directory c w)
+abbrev pub with_debt_paid : Option Debt → (ℕ → ℕ → Entry) → ℕ → ℕ → Entry
+with_debt_paid None directory c w = directory c w
+with_debt_paid (Some d) directory c w = if c == d.cache && w == d.way then d.entry else directory c w
 
-abbrev pub paid : Option Transaction → (ℕ → ℕ → Entry) → ℕ → ℕ → Entry
-paid None directory = directory
-paid (Some t) directory = pay t.requester_debt (pay t.owner_debt directory)
+abbrev pub paid_directory : Option Transaction → (ℕ → ℕ → Entry) → ℕ → ℕ → Entry
+paid_directory None directory = directory
+paid_directory (Some t) directory = with_debt_paid t.requester_debt (with_debt_paid t.owner_debt directory)

@@ -1,5 +1,5 @@
 -- The values of words, by tag and place: the latest by the history, and those of the memory.
-use Rattle.std.specs.Prelude.{ℕ, ◌≡◌, cond, eqb, ◌&&◌, List, [], ◌∷◌}
+use Rattle.std.specs.Prelude.{ℕ, ◌≡◌, ◌&&◌, List, [], ◌∷◌, if◌then◌else◌, ◌==◌}
 use Rattle.bk_machine.specs.Messages.{Op, Load, Store, UcLoad, UcStore, Evict, ToMemory, Read, Write, WriteWord}
 
 -- an operation that has completed, with its answer: an entry of the history
@@ -10,11 +10,11 @@ pub record Completed : Type 0 where
 
 -- what the words are after an operation, and after a list of them: a Store or UcStore gives its word its value
 abbrev pub after_op : Op → (ℕ → ℕ → ℕ) → ℕ → ℕ → ℕ
-after_op (Load u j) v t k = v t k
-after_op (Store u j n) v t k = cond (eqb t u && eqb k j) n (v t k)
-after_op (UcLoad u j) v t k = v t k
-after_op (UcStore u j n) v t k = cond (eqb t u && eqb k j) n (v t k)
-after_op (Evict u) v t k = v t k
+after_op (Load u j) v t number = v t number
+after_op (Store u j n) v t number = if t == u && number == j then n else v t number
+after_op (UcLoad u j) v t number = v t number
+after_op (UcStore u j n) v t number = if t == u && number == j then n else v t number
+after_op (Evict u) v t number = v t number
 
 abbrev pub values_after : (ℕ → ℕ → ℕ) → List Completed → ℕ → ℕ → ℕ
 values_after v [] = v
@@ -33,16 +33,16 @@ answer_is (UcStore t k x) v n = n ≡ 0
 answer_is (Evict t) v n = n ≡ 0
 
 -- each answer of a history is right, where the words had the values v at first
-abbrev pub Answers : (ℕ → ℕ → ℕ) → List Completed → Type 0
-Answers v [] = Unit {0}
-Answers v (d ∷ ds) = answer_is d.op v d.answer × Answers (after_op d.op v) ds
+abbrev pub RightAnswers : (ℕ → ℕ → ℕ) → List Completed → Type 0
+RightAnswers v [] = Unit {0}
+RightAnswers v (d ∷ ds) = answer_is d.op v d.answer × RightAnswers (after_op d.op v) ds
 
 -- the memory after a block or a word was written
 abbrev pub write_block : (ℕ → ℕ → ℕ) → ℕ → (ℕ → ℕ) → ℕ → ℕ → ℕ
-write_block m u ws t k = cond (eqb t u) (ws k) (m t k)
+write_block m u ws t j = if t == u then ws j else m t j
 
 abbrev pub write_word : (ℕ → ℕ → ℕ) → ℕ → ℕ → ℕ → ℕ → ℕ → ℕ
-write_word m u j n t k = cond (eqb t u && eqb k j) n (m t k)
+write_word m u j n t number = if t == u && number == j then n else m t number
 
 -- effective memory: the memory once every write still in its channel was done
 abbrev pub effective : (ℕ → ℕ → ℕ) → List ToMemory → ℕ → ℕ → ℕ

@@ -1,7 +1,7 @@
 ghost use Rattle.std.specs.Prelude.{◌≡◌, ◌<◌, ℕ, List};
 ghost use Rattle.bk_base.specs.Places.{Shape, IsAddr};
-ghost use Rattle.bk_machine.specs.World.{World, empty};
-ghost use Rattle.bk_machine.specs.Runs.{Event, MayHappen, Listed, happens, run};
+ghost use Rattle.bk_machine.specs.World.{World, empty_world};
+ghost use Rattle.bk_machine.specs.Runs.{Event, MayHappen, Listed, event_after, run};
 ghost use Rattle.bk_machine.specs.Invariant.{Invariant};
 ghost use Rattle.bk_machine.specs.Claims.{Sole, Latest, PendingAgrees, NoForeign, Collectable, Quiet, Rested};
 ghost use Rattle.bk_machine.specs.Readings.{Readings, UnderWay, AcksFall};
@@ -13,9 +13,10 @@ ghost use Rattle.bk_machine.specs.Products.{Spoken, AtPlace};
 /// The invariant is inductive: the empty state has it, each Issue, Command, Fill and Memory event and each permitted action keeps
 /// it, and so every list of them from the empty state on does. This holds for every configuration and for lists of any length.
 pub fn invariant()
-    ensures start { (k : Shape) → Invariant k (empty k.ways) }
-    ensures event { (k : Shape) (w : World) (e : Event) → MayHappen k w e → Invariant k w → Invariant k (happens k w e) }
-    ensures list { (k : Shape) (events : List Event) → Listed k events (empty k.ways) → Invariant k (run k events (empty k.ways)) }
+    ensures start { (k : Shape) → Invariant k (empty_world k.ways) }
+    ensures event { (k : Shape) (w : World) (e : Event) → MayHappen k w e → Invariant k w → Invariant k (event_after k w e) }
+    ensures list { (k : Shape) (events : List Event) → Listed k events (empty_world k.ways)
+        → Invariant k (run k events (empty_world k.ways)) }
 {}
 
 /// What a state with the invariant shows of the protocol: a block in E or M is valid in one cache alone and no cache has a block
@@ -50,10 +51,10 @@ pub fn engine_view()
 /// another group before that is settled, a flush of the owner, copies in S beside one in F, a store that invalidates these and wakes
 /// its own copy, and a block in each way of one cache. Each of the 22 permitted actions is in one of the two.
 pub fn example()
-    ensures listed { Listed first.shape first.events (empty 1) }
-    ensures answers { (run first.shape first.events (empty 1)).history ≡ first.answers }
-    ensures second_listed { Listed second.shape second.events (empty 2) }
-    ensures second_answers { (run second.shape second.events (empty 2)).history ≡ second.answers }
+    ensures listed { Listed first.shape first.events (empty_world 1) }
+    ensures answers { (run first.shape first.events (empty_world 1)).history ≡ first.answers }
+    ensures second_listed { Listed second.shape second.events (empty_world 2) }
+    ensures second_answers { (run second.shape second.events (empty_world 2)).history ≡ second.answers }
 {}
 
 /// The machine speaks of the product's messages and addresses: each message has a form in the network that it travels in, and two

@@ -55,7 +55,8 @@ fill_admitted_nil : (rules : List Rule) (more : List ℕ) → AllAdmitted rules 
 fill_admitted_nil [] more = tt
 fill_admitted_nil (rule ∷ rules) more = (witness_admitted rule, fill_admitted_nil rules more)
 
-fill_admitted : (rules : List Rule) (bytes more : List ℕ) → AllAdmitted rules bytes → AllAdmitted rules (bytes ++ (fill rules bytes ++ more))
+fill_admitted : (rules : List Rule) (bytes more : List ℕ) → AllAdmitted rules bytes
+    → AllAdmitted rules (bytes ++ (fill rules bytes ++ more))
 fill_admitted [] bytes more h = tt
 fill_admitted (rule ∷ rules) [] more h = (witness_admitted rule, fill_admitted_nil rules more)
 fill_admitted (rule ∷ rules) (b ∷ bytes) more h = (h.0, fill_admitted rules bytes more h.1)
@@ -71,7 +72,9 @@ abbrev small_witnesses : List Rule → Bool
 small_witnesses [] = true
 small_witnesses (rule ∷ rules) = ltb (witness rule) 256 && small_witnesses rules
 
-kind_witnesses : (k : Kind) → small_witnesses (rules_of (layout_of k)) ≡ true
+-- The rules of a kind are known, and what is filled in for a rule is 0, 1, 6 or the one number that the rule admits: for each of the 22
+-- kinds it computes that all are below 256.
+kind_witnesses : (kind : Kind) → small_witnesses (rules_of (layout_of kind)) ≡ true
 kind_witnesses Rd = refl
 kind_witnesses Wr = refl
 kind_witnesses UcRd = refl
@@ -119,25 +122,46 @@ IsBytes-zeros (suc n) (suc i) = IsBytes-zeros n i
 
 -- ---- the front of a message
 
-pub record IsFrontFor (k : Kind) (bytes : List ℕ) : Type 0 where
+pub record IsFrontFor (kind : Kind) (bytes : List ℕ) : Type 0 where
   pub row : Row
   pub front : IsFrontOf row bytes
-  pub size : length (spelling row) ≡ size_of (layout_of k)
+  pub size : length (spelling row) ≡ size_of (layout_of kind)
 
 -- a front of the whole is one of its own front
-shorter : (a b c d : List ℕ) (n : ℕ) → length c ≡ n → length a ≤ n → a ++ b ≡ c ++ d → c ≡ a ++ take (n - length a) b
-shorter a b c d n len le e =
+shorter : (a b bytes d : List ℕ) (n : ℕ) → length bytes ≡ n → length a ≤ n → a ++ b ≡ bytes ++ d
+    → bytes ≡ a ++ take (n - length a) b
+shorter a b bytes d n len le e =
     let k : n ≡ length a + (n - length a) = omega (arith, le) in
-    sym (take_at c d n len) ∙ (ap (take n) (sym e) ∙ (ap (λ (m : ℕ). take m (a ++ b)) k ∙ take-append-add a b (n - length a)))
+    sym (take_at bytes d n len)
+    ∙ (ap (take n) (sym e) ∙ (ap (λ (number : ℕ). take number (a ++ b)) k ∙ take-append-add a b (n - length a)))
 
-pub is_front : (k : Kind) (bytes : List ℕ) → IsBytes (kind_code k ∷ bytes) → AllAdmitted (rules_of (layout_of k)) bytes → suc (length bytes) ≤ size_of (layout_of k) → IsFrontFor k (kind_code k ∷ bytes)
-is_front k bytes fits h le =
-    let l = layout_of k in
+-- Bytes that the rules admit can be filled up to a whole message: with the least byte that each later rule admits, and with zeros for
+-- words.
+pub is_front : (kind : Kind) (bytes : List ℕ) → IsBytes (kind_code kind ∷ bytes) → AllAdmitted (rules_of (layout_of kind)) bytes
+    → suc (length bytes) ≤ size_of (layout_of kind) → IsFrontFor kind (kind_code kind ∷ bytes)
+is_front kind bytes fits h le =
+    let l = layout_of kind in
     let rules = rules_of l in
     let more = fill rules bytes ++ zeros (load_bytes l.load) in
-    let whole = kind_code k ∷ (bytes ++ more) in
+    let whole = kind_code kind ∷ (bytes ++ more) in
     let filled = fill_admitted rules bytes (zeros (load_bytes l.load)) h in
-    let byte : IsBytes whole = IsBytes-append (kind_code k ∷ bytes) more fits (IsBytes-append (fill rules bytes) (zeros (load_bytes l.load)) (fill_bytes rules bytes (kind_witnesses k)) (IsBytes-zeros (load_bytes l.load))) in
-    let long : size_of l ≤ length whole = omega (arith, fill_length rules bytes, length-append bytes more, length-append (fill rules bytes) (zeros (load_bytes l.load)), length-zeros (load_bytes l.load)) in
-    let found = found_whole k whole (is_read k whole byte refl filled long) in
-    record { row = _; front = record { message = found.message; rest = _; parts = shorter (kind_code k ∷ bytes) more (spelling _) _ (size_of l) (sym found.length-is) le found.parts }; size = sym found.length-is }
+    let byte : IsBytes whole = IsBytes-append (kind_code kind ∷ bytes) more fits
+    (IsBytes-append (fill rules bytes) (zeros (load_bytes l.load)) (fill_bytes rules bytes (kind_witnesses kind))
+    (IsBytes-zeros (load_bytes l.load))) in
+    let long : size_of l ≤ length whole = omega (
+      arith,
+      fill_length rules bytes,
+      length-append bytes more,
+      length-append (fill rules bytes) (zeros (load_bytes l.load)),
+      length-zeros (load_bytes l.load),
+    ) in
+    let found = found_whole kind whole (is_read kind whole byte refl filled long) in
+    record {
+      row = _;
+      front = record {
+        message = found.message;
+        rest = _;
+        parts = shorter (kind_code kind ∷ bytes) more (spelling _) _ (size_of l) (sym found.length-is) le found.parts;
+      };
+      size = sym found.length-is;
+    }

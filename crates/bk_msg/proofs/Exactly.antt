@@ -22,16 +22,16 @@ Read = Result (Row × ℕ) MsgFault
 
 -- ---- messages and their length
 
-pub message_length : (r : Row) → IsMessage r → length (spelling r) ≡ size_of (layout_of (fields_of r).kind)
-message_length r h = text_length (fields_of r) (layout_of (fields_of r).kind) h
+pub message_length : (m : Row) → IsMessage m → length (spelling m) ≡ size_of (layout_of (fields_of m).kind)
+message_length m h = text_length (fields_of m) (layout_of (fields_of m).kind) h
 
 pub load_few : (load : Load) → load_bytes load ≤ 64
 load_few loads.Nothing = omega arith
 load_few loads.Word = omega arith
 load_few loads.Block = omega arith
 
-pub length_bounds : (r : Row) → IsMessage r → (16 ≤ length (spelling r)) × (length (spelling r) ≤ 80)
-length_bounds r h = (omega (arith, message_length r h), omega (arith, message_length r h, load_few (layout_of (fields_of r).kind).load))
+pub length_bounds : (m : Row) → IsMessage m → (16 ≤ length (spelling m)) × (length (spelling m) ≤ 80)
+length_bounds m h = (omega (arith, message_length m h), omega (arith, message_length m h, load_few (layout_of (fields_of m).kind).load))
 
 abbrev reads : Row × ℕ → Read
 reads x = Ok x
@@ -40,28 +40,43 @@ same_read : (x y : Row × ℕ) → reads x ≡ reads y → x ≡ y
 same_read x y e = cc
 
 -- a message that begins the bytes is read
-pub begins_read : (bytes : List ℕ) (r : Row) → Begins r bytes → decode bytes ≡ Ok (r, length (spelling r))
-begins_read bytes r h = ap decode h.parts ∙ decode_again r h.rest h.message
+pub begins_read : (bytes : List ℕ) (m : Row) → Begins m bytes → decode bytes ≡ Ok (m, length (spelling m))
+begins_read bytes m h = ap decode h.parts ∙ decode_again m h.rest h.message
 
 -- two messages that begin the same bytes are one
 pub same_message : (bytes : List ℕ) (a b : Row) → Begins a bytes → Begins b bytes → a ≡ b
-same_message bytes a b ha hb = ap (λ (x : Row × ℕ). x.0) (same_read (a, length (spelling a)) (b, length (spelling b)) (sym (begins_read bytes a ha) ∙ begins_read bytes b hb))
+same_message bytes a b ha hb =
+    ap (λ (x : Row × ℕ). x.0) (same_read (a, length (spelling a)) (
+      b,
+      length (spelling b),
+    ) (sym (begins_read bytes a ha) ∙ begins_read bytes b hb))
 
 -- ---- fronts
 
-pub front_of_front : (r : Row) (bytes : List ℕ) (n : ℕ) → IsFrontOf r bytes → IsFrontOf r (take n bytes)
-front_of_front r bytes n h = record { message = h.message; rest = drop n bytes ++ h.rest; parts = h.parts ∙ (ap (λ (t : List ℕ). t ++ h.rest) (sym (take-append-drop n bytes)) ∙ append_assoc (take n bytes) (drop n bytes) h.rest) }
+pub front_of_front : (m : Row) (bytes : List ℕ) (n : ℕ) → IsFrontOf m bytes → IsFrontOf m (take n bytes)
+front_of_front m bytes n h = record {
+  message = h.message;
+  rest = drop n bytes ++ h.rest;
+  parts = h.parts ∙ (ap (λ (text : List ℕ). text ++ h.rest) (sym (take-append-drop n bytes))
+      ∙ append_assoc (take n bytes) (drop n bytes) h.rest);
+}
 
-no_front : (bytes : List ℕ) (place : ℕ) (r : Row) → IsLeastBad bytes place → IsFrontOf r bytes → ⊥
-no_front bytes place r h front = h.none (r, front_of_front r bytes (place + 1) front)
+no_front : (bytes : List ℕ) (place : ℕ) (m : Row) → IsLeastBad bytes place → IsFrontOf m bytes → ⊥
+no_front bytes place m h front = h.none (m, front_of_front m bytes (place + 1) front)
 
-front_is_whole : (bytes : List ℕ) (r m : Row) → IsFrontOf r bytes → Begins m bytes → length (spelling r) ≤ length bytes
-front_is_whole bytes r m front begins =
-    let both : spelling r ≡ spelling m ++ (begins.rest ++ front.rest) = front.parts ∙ (ap (λ (t : List ℕ). t ++ front.rest) begins.parts ∙ append_assoc (spelling m) begins.rest front.rest) in
-    let own : Begins r (spelling r) = record { message = front.message; rest = []; parts = sym (append-nil (spelling r)) } in
-    let other : Begins m (spelling r) = record { message = begins.message; rest = begins.rest ++ front.rest; parts = both } in
-    let same : r ≡ m = same_message (spelling r) r m own other in
-    omega (arith, ap length begins.parts, length-append (spelling m) begins.rest, ap (λ (x : Row). length (spelling x)) same)
+front_is_whole : (bytes : List ℕ) (message m : Row) → IsFrontOf message bytes → Begins m bytes
+    → length (spelling message) ≤ length bytes
+front_is_whole bytes message m front begins =
+    let both : spelling message ≡ spelling m ++ (begins.rest ++ front.rest) = front.parts
+    ∙ (ap (λ (text : List ℕ). text ++ front.rest) begins.parts ∙ append_assoc (spelling m) begins.rest front.rest) in
+    let own : Begins message (spelling message) = record {
+      message = front.message;
+      rest = [];
+      parts = sym (append-nil (spelling message));
+    } in
+    let other : Begins m (spelling message) = record { message = begins.message; rest = begins.rest ++ front.rest; parts = both } in
+    let same : message ≡ m = same_message (spelling message) message m own other in
+    omega (arith, ap length begins.parts, length-append (spelling m) begins.rest, ap (λ (sent : Row). length (spelling sent)) same)
 
 begins_found : (bytes : List ℕ) (x : Row × ℕ) → IsFound bytes x → Begins x.0 bytes
 begins_found bytes x h = record { message = h.message; rest = drop x.1 bytes; parts = h.parts }
@@ -75,7 +90,8 @@ short_fault bytes (faults.Reserved place) h front = no_front bytes place front.0
 short_fault bytes (faults.Short needed) h front = tt
 
 is_short : (bytes : List ℕ) (o : Read) → IsBytes bytes → decode bytes ≡ o → IsProperFront bytes → IsErrAnd o IsShort
-is_short bytes (Ok x) fits e front = absurd (omega (arith, front_is_whole bytes front.0 x.0 front.1 (begins_found bytes x (decode_found bytes x fits e)), front.2))
+is_short bytes (Ok x) fits e front =
+    absurd (omega (arith, front_is_whole bytes front.0 x.0 front.1 (begins_found bytes x (decode_found bytes x fits e)), front.2))
 is_short bytes (Err fault) fits e front = short_fault bytes fault (is_fault bytes fault fits e) front
 
 pub short : (bytes : List ℕ) (o : Read) → IsBytes bytes → o ≡ decode bytes → IsProperFront bytes → IsErrAnd o IsShort
@@ -87,8 +103,9 @@ least : (bytes : List ℕ) (a b : ℕ) → IsLeastBad bytes a → IsLeastBad byt
 least bytes a b ha hb =
     elim (cases_lt a b) [
       | inl lt ↦
-          let longer : IsFront (take (a + 1) (take b bytes)) = (hb.before.0, front_of_front hb.before.0 (take b bytes) (a + 1) hb.before.1) in
-          absurd (ha.none (subst (λ (t : List ℕ). IsFront t) (take-take (a + 1) b bytes (omega (arith, lt))) longer))
+          let longer : IsFront (take (a + 1) (take b bytes)) =
+          (hb.before.0, front_of_front hb.before.0 (take b bytes) (a + 1) hb.before.1) in
+          absurd (ha.none (subst (λ (text : List ℕ). IsFront text) (take-take (a + 1) b bytes (omega (arith, lt))) longer))
       | inr le ↦ le
     ]
 
@@ -105,16 +122,19 @@ bad_fault bytes place (faults.Field at) h is = one_place bytes place at h is
 bad_fault bytes place (faults.Reserved at) h is = one_place bytes place at h is.0
 bad_fault bytes place (faults.Short needed) h is = cut_is_front bytes place needed h is
 
-is_bad : (bytes : List ℕ) (o : Read) (place : ℕ) → IsBytes bytes → decode bytes ≡ o → IsLeastBad bytes place → ((r : Row) → Begins r bytes → ⊥) → IsErrAnd o (IsBadAt place)
+is_bad : (bytes : List ℕ) (o : Read) (place : ℕ) → IsBytes bytes → decode bytes ≡ o → IsLeastBad bytes place
+    → ((m : Row) → Begins m bytes → ⊥) → IsErrAnd o (IsBadAt place)
 is_bad bytes (Ok x) place fits e h none = absurd (none x.0 (begins_found bytes x (decode_found bytes x fits e)))
 is_bad bytes (Err fault) place fits e h none = bad_fault bytes place fault h (is_fault bytes fault fits e)
 
-pub bad : (bytes : List ℕ) (o : Read) (place : ℕ) → IsBytes bytes → o ≡ decode bytes → IsLeastBad bytes place → ((r : Row) → Begins r bytes → ⊥) → IsErrAnd o (IsBadAt place)
+pub bad : (bytes : List ℕ) (o : Read) (place : ℕ) → IsBytes bytes → o ≡ decode bytes → IsLeastBad bytes place
+    → ((m : Row) → Begins m bytes → ⊥) → IsErrAnd o (IsBadAt place)
 bad bytes o place fits e h none = is_bad bytes o place fits (sym e) h none
 
 -- ---- the clauses of reading
 
-pub found : (bytes : List ℕ) (o : Read) → IsBytes bytes → o ≡ decode bytes → IfOk o (λ x. Begins x.0 bytes × (x.1 ≡ length (spelling x.0)))
+pub found : (bytes : List ℕ) (o : Read) → IsBytes bytes → o ≡ decode bytes
+    → IfOk o (λ x. Begins x.0 bytes × (x.1 ≡ length (spelling x.0)))
 found bytes (Ok x) fits e = let h = decode_found bytes x fits (sym e) in (begins_found bytes x h, h.length-is)
 found bytes (Err fault) fits e = tt
 
@@ -122,11 +142,13 @@ pub fault : (bytes : List ℕ) (o : Read) → IsBytes bytes → o ≡ decode byt
 fault bytes (Ok x) fits e = tt
 fault bytes (Err f) fits e = is_fault bytes f fits (sym e)
 
-pub append_cancel : (a x y : List ℕ) → a ++ x ≡ a ++ y → x ≡ y
-append_cancel [] x y e = e
-append_cancel (b ∷ a) x y e = append_cancel a x y (ap (drop 1) e)
+pub append_cancel : (a bytes y : List ℕ) → a ++ bytes ≡ a ++ y → bytes ≡ y
+append_cancel [] bytes y e = e
+append_cancel (b ∷ a) bytes y e = append_cancel a bytes y (ap (drop 1) e)
 
-pub one_spelling : (a b : Row) (x y : List ℕ) → IsMessage a → IsMessage b → spelling a ++ x ≡ spelling b ++ y → (a ≡ b) × (x ≡ y)
-one_spelling a b x y ha hb e =
-    let same : a ≡ b = same_message (spelling a ++ x) a b (record { message = ha; rest = x; parts = refl }) (record { message = hb; rest = y; parts = e }) in
-    (same, append_cancel (spelling b) x y (subst (λ (r : Row). spelling r ++ x ≡ spelling b ++ y) same e))
+pub one_spelling : (a b : Row) (bytes y : List ℕ) → IsMessage a → IsMessage b → spelling a ++ bytes ≡ spelling b ++ y
+    → (a ≡ b) × (bytes ≡ y)
+one_spelling a b bytes y ha hb e =
+    let same : a ≡ b = same_message (spelling a ++ bytes) a b (record { message = ha; rest = bytes; parts = refl })
+    (record { message = hb; rest = y; parts = e }) in
+    (same, append_cancel (spelling b) bytes y (subst (λ (m : Row). spelling m ++ bytes ≡ spelling b ++ y) same e))

@@ -18,7 +18,8 @@ abbrev uc_wr : Row
 uc_wr = UcWr 0 0xf0 0x40 7
 
 abbrev uc_wr_bytes : List ℕ
-uc_wr_bytes = 0x04 ∷ 0x00 ∷ 0xf0 ∷ 0 ∷ 0 ∷ 0 ∷ 0 ∷ 0 ∷ 0x40 ∷ 0 ∷ 0 ∷ 0 ∷ 0 ∷ 0 ∷ 0 ∷ 0 ∷ 0x07 ∷ 0 ∷ 0 ∷ 0 ∷ 0 ∷ 0 ∷ 0 ∷ 0 ∷ []
+uc_wr_bytes = 0x04 ∷ 0x00 ∷ 0xf0 ∷ 0 ∷ 0 ∷ 0 ∷ 0 ∷ 0 ∷ 0x40 ∷ 0 ∷ 0 ∷ 0 ∷ 0 ∷ 0 ∷ 0 ∷ 0 ∷ 0x07 ∷ 0 ∷ 0
+    ∷ 0 ∷ 0 ∷ 0 ∷ 0 ∷ 0 ∷ []
 
 abbrev words : List ℕ
 words = 1 ∷ 0x0203 ∷ 0 ∷ 0 ∷ 0 ∷ 0 ∷ 0 ∷ 0xff00000000000000 ∷ []
@@ -38,13 +39,26 @@ record Spellings : Type 0 where
   -- a state, and a peer with its way and state
   peer : spelling (StTr 0xf0 2 O 3 4 S 0x40) ≡ 0x13 ∷ 0xf0 ∷ 2 ∷ 0 ∷ 7 ∷ 3 ∷ 4 ∷ 1 ∷ 0x40 ∷ replicate 7 0
   -- a way, a state and eight words, at the greatest block
-  granted : spelling (Blk 0xf0 7 6 E 0xffffffffc0 words) ≡ (0x14 ∷ 0xf0 ∷ 7 ∷ 6 ∷ 2 ∷ 0 ∷ 0 ∷ 0 ∷ 0xc0 ∷ 0xff ∷ 0xff ∷ 0xff ∷ 0xff ∷ 0 ∷ 0 ∷ 0 ∷ []) ++ words_bytes
-  from_a_cache : spelling (Fill 5 6 7 F 0x40 words) ≡ (0x21 ∷ 5 ∷ 6 ∷ 7 ∷ 3 ∷ 0 ∷ 0 ∷ 0 ∷ 0x40 ∷ replicate 7 0) ++ words_bytes
-  to_memory : spelling (Write 0xf0 0xf1 0x40 words) ≡ (0x42 ∷ 0xf0 ∷ 0xf1 ∷ 0 ∷ 0 ∷ 0 ∷ 0 ∷ 0 ∷ 0x40 ∷ replicate 7 0) ++ words_bytes
+  granted : spelling (Blk 0xf0 7 6 E 0xffffffffc0 words)
+      ≡ (0x14 ∷ 0xf0 ∷ 7 ∷ 6 ∷ 2 ∷ 0 ∷ 0 ∷ 0 ∷ 0xc0 ∷ 0xff ∷ 0xff ∷ 0xff ∷ 0xff ∷ 0 ∷ 0 ∷ 0 ∷ [])
+      ++ words_bytes
+  from_a_cache : spelling (Fill 5 6 7 F 0x40 words) ≡ (0x21 ∷ 5 ∷ 6 ∷ 7 ∷ 3 ∷ 0 ∷ 0 ∷ 0 ∷ 0x40 ∷ replicate 7 0)
+      ++ words_bytes
+  to_memory : spelling (Write 0xf0 0xf1 0x40 words) ≡ (0x42 ∷ 0xf0 ∷ 0xf1 ∷ 0 ∷ 0 ∷ 0 ∷ 0 ∷ 0 ∷ 0x40 ∷ replicate 7 0)
+      ++ words_bytes
   from_memory : spelling (Block 0xf1 0xf0 0 words) ≡ (0x44 ∷ 0xf1 ∷ 0xf0 ∷ replicate 13 0) ++ words_bytes
 
 spellings : Spellings
-spellings = record { no_payload = refl; word = refl; lowered = refl; peer = refl; granted = refl; from_a_cache = refl; to_memory = refl; from_memory = refl }
+spellings = record {
+  no_payload = refl;
+  word = refl;
+  lowered = refl;
+  peer = refl;
+  granted = refl;
+  from_a_cache = refl;
+  to_memory = refl;
+  from_memory = refl;
+}
 
 record Readings : Type 0 where
   one : decode rd_bytes ≡ Ok (rd, 16)
@@ -89,4 +103,27 @@ record Faults : Type 0 where
 
 computed_faults : Faults
 unfolding decode
-computed_faults = record { nothing = refl; first_byte = refl; last_byte = refl; no_word = refl; kind = refl; from = refl; to = refl; way = refl; reserved = refl; reserved_way = refl; block = refl; block_word = refl; word = refl; top = refl; state = refl; no_state = refl; left = refl; peer = refl; peer_way = refl; peer_state = refl; granted = refl; least = refl }
+computed_faults = record {
+  nothing = refl;
+  first_byte = refl;
+  last_byte = refl;
+  no_word = refl;
+  kind = refl;
+  from = refl;
+  to = refl;
+  way = refl;
+  reserved = refl;
+  reserved_way = refl;
+  block = refl;
+  block_word = refl;
+  word = refl;
+  top = refl;
+  state = refl;
+  no_state = refl;
+  left = refl;
+  peer = refl;
+  peer_way = refl;
+  peer_state = refl;
+  granted = refl;
+  least = refl;
+}

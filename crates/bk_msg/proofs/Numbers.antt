@@ -8,7 +8,8 @@ use Rattle.bk_msg.specs.declared.kind.Kind.{Kind}
 use Rattle.bk_msg.specs.declared.kind.Kind.TheVariants.{Rd, Wr, UcRd, UcWr, Evict, Inv, StWb, StTr, Blk, StWake, UcBlk, UcDone, Done, Fill, InvAck, CohAck, Wb, NullWb, Read, Write, WriteWord, Block}
 use Rattle.bk_msg.specs.Kinds.{kind_code, kinds, with_code, kind_of_code}
 
-pub kind_again : (k : Kind) → kind_of_code (kind_code k) ≡ Some k
+-- The 22 numbers differ, so the search through the list of kinds passes all the kinds before and stops at this one: each is computed.
+pub kind_again : (kind : Kind) → kind_of_code (kind_code kind) ≡ Some kind
 kind_again Rd = refl
 kind_again Wr = refl
 kind_again UcRd = refl
@@ -32,33 +33,37 @@ kind_again Write = refl
 kind_again WriteWord = refl
 kind_again Block = refl
 
-found_here : (test : Bool) (n : ℕ) (j k : Kind) (others : Option Kind) → (test ≡ true → n ≡ kind_code j) → (others ≡ Some k → n ≡ kind_code k) → cond test (Some j) others ≡ Some k → n ≡ kind_code k
-found_here true n j k others here later e = let same : j ≡ k = cc in subst (λ (x : Kind). n ≡ kind_code x) same (here refl)
-found_here false n j k others here later e = later e
+found_here : (test : Bool) (n : ℕ) (j kind : Kind) (others : Option Kind) → (test ≡ true → n ≡ kind_code j)
+    → (others ≡ Some kind → n ≡ kind_code kind) → cond test (Some j) others ≡ Some kind → n ≡ kind_code kind
+found_here true n j kind others here later e = let same : j ≡ kind = cc in subst (λ (x : Kind). n ≡ kind_code x) same (here refl)
+found_here false n j kind others here later e = later e
 
-found_in : (n : ℕ) (ks : List Kind) (k : Kind) → with_code n ks ≡ Some k → n ≡ kind_code k
-found_in n [] k e = absurd cc
-found_in n (j ∷ js) k e = found_here (eqb n (kind_code j)) n j k (with_code n js) (λ h. eqb-true _ _ h) (λ h. found_in n js k h) e
+found_in : (n : ℕ) (ks : List Kind) (kind : Kind) → with_code n ks ≡ Some kind → n ≡ kind_code kind
+found_in n [] kind e = absurd cc
+found_in n (j ∷ js) kind e =
+    found_here (eqb n (kind_code j)) n j kind (with_code n js) (λ h. eqb-true _ _ h) (λ h. found_in n js kind h) e
 
 -- a kind that is found has the number
-pub kind_found : (n : ℕ) (k : Kind) → kind_of_code n ≡ Some k → n ≡ kind_code k
-kind_found n k e = found_in n kinds k e
+pub kind_found : (n : ℕ) (kind : Kind) → kind_of_code n ≡ Some kind → n ≡ kind_code kind
+kind_found n kind e = found_in n kinds kind e
 
-state_here : (test : Bool) (n : ℕ) (j s : Coh) (others : Option Coh) → (test ≡ true → n ≡ code_of j) → (others ≡ Some s → n ≡ code_of s) → cond test (Some j) others ≡ Some s → n ≡ code_of s
-state_here true n j s others here later e = let same : j ≡ s = cc in subst (λ (x : Coh). n ≡ code_of x) same (here refl)
-state_here false n j s others here later e = later e
+state_here : (test : Bool) (n : ℕ) (j y : Coh) (others : Option Coh) → (test ≡ true → n ≡ code_of j)
+    → (others ≡ Some y → n ≡ code_of y)
+    → cond test (Some j) others ≡ Some y → n ≡ code_of y
+state_here true n j y others here later e = let same : j ≡ y = cc in subst (λ (state : Coh). n ≡ code_of state) same (here refl)
+state_here false n j y others here later e = later e
 
 -- a state that is found has the code
-pub state_found : (n : ℕ) (s : Coh) → state_of_code n ≡ Some s → n ≡ code_of s
-state_found n s e =
-    state_here (eqb n 0) n I s _ (λ h. eqb-true _ _ h)
-    (state_here (eqb n 1) n S s _ (λ h. eqb-true _ _ h)
-    (state_here (eqb n 2) n E s _ (λ h. eqb-true _ _ h)
-    (state_here (eqb n 3) n F s _ (λ h. eqb-true _ _ h)
-    (state_here (eqb n 6) n M s _ (λ h. eqb-true _ _ h)
-    (state_here (eqb n 7) n O s None (λ h. eqb-true _ _ h) (λ h. absurd cc)))))) e
+pub state_found : (n : ℕ) (y : Coh) → state_of_code n ≡ Some y → n ≡ code_of y
+state_found n y e =
+    state_here (eqb n 0) n I y _ (λ h. eqb-true _ _ h)
+    (state_here (eqb n 1) n S y _ (λ h. eqb-true _ _ h)
+    (state_here (eqb n 2) n E y _ (λ h. eqb-true _ _ h)
+    (state_here (eqb n 3) n F y _ (λ h. eqb-true _ _ h)
+    (state_here (eqb n 6) n M y _ (λ h. eqb-true _ _ h)
+    (state_here (eqb n 7) n O y None (λ h. eqb-true _ _ h) (λ h. absurd cc)))))) e
 
-pub state_again : (s : Coh) → state_of_code (code_of s) ≡ Some s
+pub state_again : (y : Coh) → state_of_code (code_of y) ≡ Some y
 state_again I = refl
 state_again S = refl
 state_again E = refl

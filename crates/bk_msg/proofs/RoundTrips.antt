@@ -18,13 +18,15 @@ use Rattle.bk_msg.specs.declared.table.Rule.TheVariants.{Reserved, Number, Only,
 use Rattle.bk_msg.specs.declared.table.Layout.{Layout}
 use Rattle.bk_msg.specs.Table.{admits, holds_code, layout_of}
 use Rattle.bk_msg.specs.Fields.{fields_of, row_of, row_of_kind, state, load_word, load_block}
-use Rattle.bk_msg.specs.Spelling.{Fits, IsPayload, IsMessage}
+use Rattle.bk_msg.specs.Spelling.{FitsLayout, IsPayload, IsMessage}
 use Rattle.bk_msg.proofs.Numbers.{state_found, state_again}
 
-state-code_of : (s : Coh) → state (code_of s) ≡ s
-state-code_of s = rw (state_again s) refl
+state-code_of : (y : Coh) → state (code_of y) ≡ y
+state-code_of y = rw (state_again y) refl
 
-pub row_of-fields_of : (r : Row) → row_of (fields_of r) ≡ r
+-- The fields name the message's kind and keep all that the message has, so each of the 22 computes. A state stands in the fields as its
+-- code, which gives the state again (`state-code_of`).
+pub row_of-fields_of : (m : Row) → row_of (fields_of m) ≡ m
 row_of-fields_of (Rd from to way addr) = refl
 row_of-fields_of (Wr from to way addr) = refl
 row_of-fields_of (UcRd from to addr) = refl
@@ -61,9 +63,22 @@ kept_payload loads.Word p = payloads.Word (load_word p)
 kept_payload loads.Block p = payloads.Block (load_block p)
 
 abbrev kept_fields : Layout → Fields → Fields
-kept_fields l f = record { kind = f.kind; from = f.from; to = f.to; way = kept l.way f.way; state = kept l.state f.state; peer = kept l.peer f.peer; peer_way = kept l.peer_way f.peer_way; peer_state = kept l.peer_state f.peer_state; addr = f.addr; payload = kept_payload l.load f.payload }
+kept_fields l f = record {
+  kind = f.kind;
+  from = f.from;
+  to = f.to;
+  way = kept l.way f.way;
+  state = kept l.state f.state;
+  peer = kept l.peer f.peer;
+  peer_way = kept l.peer_way f.peer_way;
+  peer_state = kept l.peer_state f.peer_state;
+  addr = f.addr;
+  payload = kept_payload l.load f.payload;
+}
 
-of_kind : (k : Kind) (f : Fields) → fields_of (row_of_kind k f) ≡ kept_fields (layout_of k) (record f { kind = k })
+-- A message of a kind has no place for a reserved field or for another payload, and keeps a state in place of a code. `kept_fields`
+-- drops just that by the kind's layout, so each of the 22 computes.
+of_kind : (kind : Kind) (f : Fields) → fields_of (row_of_kind kind f) ≡ kept_fields (layout_of kind) (record f { kind = kind })
 of_kind kinds.Rd f = refl
 of_kind kinds.Wr f = refl
 of_kind kinds.UcRd f = refl
@@ -87,7 +102,8 @@ of_kind kinds.Write f = refl
 of_kind kinds.WriteWord f = refl
 of_kind kinds.Block f = refl
 
-kept_state : (states : States) (o : Option Coh) (v : ℕ) → state_of_code v ≡ o → holds_code states o ≡ true → code_of (state v) ≡ v
+kept_state : (states : States) (o : Option Coh) (v : ℕ) → state_of_code v ≡ o → holds_code states o ≡ true
+    → code_of (state v) ≡ v
 kept_state states None v e h = absurd cc
 kept_state states (Some s) v e h = rw e (sym (state_found v s e))
 
@@ -110,13 +126,20 @@ kept_payload_is loads.Block payloads.Nothing h = absurd h
 kept_payload_is loads.Block (payloads.Word w) h = absurd h
 kept_payload_is loads.Block (payloads.Block ws) h = refl
 
-kept_all : (l : Layout) (f : Fields) → Fits l f → kept_fields l f ≡ f
+kept_all : (l : Layout) (f : Fields) → FitsLayout l f → kept_fields l f ≡ f
 kept_all l f h =
-    rw (kept_is l.way f.way h.way, kept_is l.state f.state h.state, kept_is l.peer f.peer h.peer, kept_is l.peer_way f.peer_way h.peer_way, kept_is l.peer_state f.peer_state h.peer_state, kept_payload_is l.load f.payload h.payload) refl
+    rw (
+      kept_is l.way f.way h.way,
+      kept_is l.state f.state h.state,
+      kept_is l.peer f.peer h.peer,
+      kept_is l.peer_way f.peer_way h.peer_way,
+      kept_is l.peer_state f.peer_state h.peer_state,
+      kept_payload_is l.load f.payload h.payload,
+    ) refl
 
-pub fields_of-row_of : (f : Fields) → Fits (layout_of f.kind) f → fields_of (row_of f) ≡ f
+pub fields_of-row_of : (f : Fields) → FitsLayout (layout_of f.kind) f → fields_of (row_of f) ≡ f
 fields_of-row_of f h = of_kind f.kind f ∙ kept_all (layout_of f.kind) f h
 
 -- what is made of fields in range is in range
-pub row_in_range : (f : Fields) → Fits (layout_of f.kind) f → IsMessage (row_of f)
-row_in_range f h = subst (λ (g : Fields). Fits (layout_of g.kind) g) (sym (fields_of-row_of f h)) h
+pub row_in_range : (f : Fields) → FitsLayout (layout_of f.kind) f → IsMessage (row_of f)
+row_in_range f h = subst (λ (g : Fields). FitsLayout (layout_of g.kind) g) (sym (fields_of-row_of f h)) h

@@ -6,17 +6,17 @@ use Rattle.bk_msg.specs.declared.row.Row.{Row}
 use Rattle.bk_msg.specs.Spelling.{spelling, IsMessage}
 
 -- the bytes are the front of a message's spelling, or the whole of it
-pub record IsFrontOf (r : Row) (bytes : List ℕ) : Type 0 where
-  pub message : IsMessage r
+pub record IsFrontOf (m : Row) (bytes : List ℕ) : Type 0 where
+  pub message : IsMessage m
   pub rest : List ℕ
-  pub parts : spelling r ≡ bytes ++ rest
+  pub parts : spelling m ≡ bytes ++ rest
 
 abbrev pub IsFront : List ℕ → Type 0
-IsFront bytes = (r : Row) × IsFrontOf r bytes
+IsFront bytes = (m : Row) × IsFrontOf m bytes
 
 -- they are the front of a message's spelling, and not the whole
 abbrev pub IsProperFront : List ℕ → Type 0
-IsProperFront bytes = (r : Row) × IsFrontOf r bytes × (length bytes < length (spelling r))
+IsProperFront bytes = (m : Row) × IsFrontOf m bytes × (length bytes < length (spelling m))
 
 -- the least place where the bytes leave every spelling: with this byte they are no message's front, and before it they were one's
 pub record IsLeastBad (bytes : List ℕ) (place : ℕ) : Type 0 where
@@ -26,12 +26,13 @@ pub record IsLeastBad (bytes : List ℕ) (place : ℕ) : Type 0 where
 
 -- each message with the same first byte has 0 at the place
 abbrev pub MustBeZero : List ℕ → ℕ → Type 0
-MustBeZero bytes place = (r : Row) → IsMessage r → slice_index (spelling r) 0 ≡ slice_index bytes 0 → slice_index (spelling r) place ≡ 0
+MustBeZero bytes place = (m : Row) → IsMessage m → slice_index (spelling m) 0 ≡ slice_index bytes 0
+    → slice_index (spelling m) place ≡ 0
 
 -- the bytes end before a message does that has this length; of no byte at all one is needed to tell
 abbrev pub IsCut : List ℕ → ℕ → Type 0
 IsCut [] needed = needed ≡ 1
-IsCut (b ∷ bytes) needed = (r : Row) × IsFrontOf r (b ∷ bytes) × (length (b ∷ bytes) < needed) × (needed ≡ length (spelling r))
+IsCut (b ∷ bytes) needed = (m : Row) × IsFrontOf m (b ∷ bytes) × (length (b ∷ bytes) < needed) × (needed ≡ length (spelling m))
 
 -- what each fault says of the bytes
 abbrev pub IsFaultOf : List ℕ → MsgFault → Type 0

@@ -33,9 +33,9 @@ abbrev pub IsPartial : List ℕ → Type 0
 IsPartial rest = (needed : ℕ) × (decode rest ≡ Err (faults.Short needed))
 
 -- what holds of every feed
-pub record IsKept (k : Kept) : Type 0 where
-  pub within : length k.rest ≤ k.fed
-  pub partial : IsPartial k.rest
+pub record IsKept (kept : Kept) : Type 0 where
+  pub within : length kept.rest ≤ kept.fed
+  pub partial : IsPartial kept.rest
 
 abbrev pub new_feed : Kept
 new_feed = record { fed = 0; rest = []; fault = None }
@@ -47,7 +47,8 @@ stopped fed rest fault = record { fed = fed; rest = []; fault = Some (fed - leng
 
 -- a piece that is taken: the rest followed by the piece is these messages and a new rest
 abbrev pub Takes : Kept → List ℕ → List Row → Kept → Type 0
-Takes old piece messages new = (rest : List ℕ) × (fault : MsgFault) × Splits (old.rest ++ piece) messages rest fault × (new ≡ stopped (old.fed + length piece) rest fault)
+Takes old piece messages new = (rest : List ℕ) × (fault : MsgFault) × Splits (old.rest ++ piece) messages rest fault
+    × (new ≡ stopped (old.fed + length piece) rest fault)
 
 -- what a piece adds and leaves: nothing changes once a fault was met
 abbrev pub Feeds : Kept → List ℕ → List Row → Kept → Type 0
@@ -59,7 +60,8 @@ answer_of None = Ok tt
 answer_of (Some bad) = Err (feed_faults.Bad bad.0 bad.1)
 
 abbrev pub Fed : Result (Unit {0}) FeedFault → Kept → List ℕ → List Row → Kept → List Row → Type 0
-Fed result old piece before new after = (result ≡ answer_of new.fault) × (messages : List Row) × Feeds old piece messages new × (after ≡ before ++ messages)
+Fed result old piece before new after = (result ≡ answer_of new.fault) × (messages : List Row) × Feeds old piece messages new
+    × (after ≡ before ++ messages)
 
 -- what a call of `feed` does: nothing where memory runs out
 abbrev pub Outcome : Result (Unit {0}) FeedFault → Kept → List ℕ → List Row → Kept → List Row → Type 0
@@ -77,11 +79,12 @@ end_of None fed rest = end_of_rest fed rest
 end_of (Some bad) fed rest = Err (ends.Bad bad.0 bad.1)
 
 abbrev pub finish_of : Kept → Result (Unit {0}) FeedEnd
-finish_of k = end_of k.fault k.fed k.rest
+finish_of kept = end_of kept.fault kept.fed kept.rest
 
 -- messages were appended, and then comes a rest of these first bytes and so many more, which are none where it is short
 abbrev pub Reads : List ℕ → List Row → List Row → List ℕ → ℕ → MsgFault → Type 0
-Reads stream before after front left fault = (messages : List Row) × (rest : List ℕ) × Splits stream messages rest fault × (after ≡ before ++ messages) × (length rest ≡ length front + left) × (IsShort fault → rest ≡ front)
+Reads stream before after front left fault = (messages : List Row) × (rest : List ℕ) × Splits stream messages rest fault
+    × (after ≡ before ++ messages) × (length rest ≡ length front + left) × (IsShort fault → rest ≡ front)
 
 -- ---- calls, one after the other
 
@@ -89,14 +92,17 @@ Reads stream before after front left fault = (messages : List Row) × (rest : Li
 
 abbrev pub FeedsAll : Kept → List (List ℕ) → List Row → Kept → Type 0
 FeedsAll old [] messages new = (messages ≡ []) × (new ≡ old)
-FeedsAll old (piece ∷ pieces) messages new = (first : List Row) × (others : List Row) × (between : Kept) × Feeds old piece first between × FeedsAll between pieces others new × (messages ≡ first ++ others)
+FeedsAll old (piece ∷ pieces) messages new = (first : List Row) × (others : List Row) × (between : Kept)
+    × Feeds old piece first between
+    × FeedsAll between pieces others new × (messages ≡ first ++ others)
 
 -- the stream that comes in these pieces
 abbrev pub joined : List (List ℕ) → List ℕ
 joined pieces = flat_map (λ piece. piece) pieces
 
--- what a feed has made of a stream: the messages that it spells up to a rest, which the feed keeps where it is short, and else its place and its fault
+-- what a feed has made of a stream: the messages that it spells up to a rest, which the feed keeps where it is short, and else its
+-- place and its fault
 abbrev pub IsFedBy : List ℕ → List Row → Kept → Type 0
-IsFedBy stream messages k = MatchOption k.fault
-    ((needed : ℕ) × Splits stream messages k.rest (faults.Short needed) × (k.fed ≡ length stream))
+IsFedBy stream messages kept = MatchOption kept.fault
+    ((needed : ℕ) × Splits stream messages kept.rest (faults.Short needed) × (kept.fed ≡ length stream))
     (λ bad. (rest : List ℕ) × Splits stream messages rest bad.1 × (bad.0 ≡ length (spellings messages)) × (IsShort bad.1 → ⊥))

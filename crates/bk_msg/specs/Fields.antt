@@ -29,7 +29,18 @@ load_block _ = 0 ∷ 0 ∷ 0 ∷ 0 ∷ 0 ∷ 0 ∷ 0 ∷ 0 ∷ []
 
 -- only the two ends and an address are named, and nothing follows
 abbrev pub bare : Kind → ℕ → ℕ → ℕ → Fields
-bare kind from to addr = record { kind = kind; from = from; to = to; way = 0; state = 0; peer = 0; peer_way = 0; peer_state = 0; addr = addr; payload = payloads.Nothing }
+bare kind from to addr = record {
+  kind = kind;
+  from = from;
+  to = to;
+  way = 0;
+  state = 0;
+  peer = 0;
+  peer_way = 0;
+  peer_state = 0;
+  addr = addr;
+  payload = payloads.Nothing;
+}
 
 -- where each field of a message is spelled; the other places have 0
 abbrev pub fields_of : Row → Fields
@@ -40,13 +51,22 @@ fields_of (UcWr from to addr word) = record (bare kinds.UcWr from to addr) { pay
 fields_of (Evict from to way addr) = record (bare kinds.Evict from to addr) { way = way }
 fields_of (Inv from to addr) = bare kinds.Inv from to addr
 fields_of (StWb from to state addr) = record (bare kinds.StWb from to addr) { state = code_of state }
-fields_of (StTr from to state peer peer_way peer_state addr) = record (bare kinds.StTr from to addr) { state = code_of state; peer = peer; peer_way = peer_way; peer_state = code_of peer_state }
-fields_of (Blk from to way state addr words) = record (bare kinds.Blk from to addr) { way = way; state = code_of state; payload = payloads.Block words }
+fields_of (StTr from to state peer peer_way peer_state addr) =
+    record (bare kinds.StTr from to addr) { state = code_of state; peer = peer; peer_way = peer_way; peer_state = code_of peer_state }
+fields_of (Blk from to way state addr words) = record (bare kinds.Blk from to addr) {
+  way = way;
+  state = code_of state;
+  payload = payloads.Block words;
+}
 fields_of (StWake from to way state addr) = record (bare kinds.StWake from to addr) { way = way; state = code_of state }
 fields_of (UcBlk from to addr word) = record (bare kinds.UcBlk from to addr) { payload = payloads.Word word }
 fields_of (UcDone from to addr) = bare kinds.UcDone from to addr
 fields_of (Done from to addr) = bare kinds.Done from to addr
-fields_of (Fill from to way state addr words) = record (bare kinds.Fill from to addr) { way = way; state = code_of state; payload = payloads.Block words }
+fields_of (Fill from to way state addr words) = record (bare kinds.Fill from to addr) {
+  way = way;
+  state = code_of state;
+  payload = payloads.Block words;
+}
 fields_of (InvAck from to addr) = bare kinds.InvAck from to addr
 fields_of (CohAck from to addr) = bare kinds.CohAck from to addr
 fields_of (Wb from to addr words) = record (bare kinds.Wb from to addr) { payload = payloads.Block words }

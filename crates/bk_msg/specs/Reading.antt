@@ -37,12 +37,24 @@ payload_at loads.Block bytes = payloads.Block (words_at 16 8 bytes)
 
 -- the fields of a message of a kind
 abbrev pub fields_at : Kind → List ℕ → Fields
-fields_at kind bytes = record { kind = kind; from = slice_index bytes 1; to = slice_index bytes 2; way = slice_index bytes 3; state = slice_index bytes 4; peer = slice_index bytes 5; peer_way = slice_index bytes 6; peer_state = slice_index bytes 7; addr = word_at 8 bytes; payload = payload_at (layout_of kind).load bytes }
+fields_at kind bytes = record {
+  kind = kind;
+  from = slice_index bytes 1;
+  to = slice_index bytes 2;
+  way = slice_index bytes 3;
+  state = slice_index bytes 4;
+  peer = slice_index bytes 5;
+  peer_way = slice_index bytes 6;
+  peer_state = slice_index bytes 7;
+  addr = word_at 8 bytes;
+  payload = payload_at (layout_of kind).load bytes;
+}
 
 -- the message of a kind whose bytes have a first fault or none, and its length
 abbrev pub message_at : Kind → List ℕ → Option MsgFault → Result (Row × ℕ) MsgFault
 message_at kind bytes (Some fault) = Err fault
-message_at kind bytes None = if nat_lt (length bytes) (size_of (layout_of kind)) then Err (faults.Short (size_of (layout_of kind))) else Ok (row_of (fields_at kind bytes), size_of (layout_of kind))
+message_at kind bytes None = if nat_lt (length bytes) (size_of (layout_of kind)) then Err (faults.Short (size_of (layout_of kind)))
+    else Ok (row_of (fields_at kind bytes), size_of (layout_of kind))
 
 abbrev pub after_kind : Option Kind → ℕ → List ℕ → Result (Row × ℕ) MsgFault
 after_kind None first rest = Err (faults.Kind first)

@@ -27,7 +27,7 @@ text f = header f ++ word f.addr ++ flat_map word (words_of f.payload)
 
 -- the one spelling of a message
 abbrev pub spelling : Row → List ℕ
-spelling r = text (fields_of r)
+spelling m = text (fields_of m)
 
 -- a number of 64 bits
 abbrev pub IsWord : ℕ → Type 0
@@ -41,7 +41,7 @@ IsPayload loads.Block (payloads.Block ws) = (length ws ≡ 8) × AllByRecursion 
 IsPayload _ _ = ⊥
 
 -- each field is in the range that the line of its kind gives it
-pub record Fits (l : Layout) (f : Fields) : Type 0 where
+pub record FitsLayout (l : Layout) (f : Fields) : Type 0 where
   pub from : IsTrue (admits l.from f.from)
   pub to : IsTrue (admits l.to f.to)
   pub way : IsTrue (admits l.way f.way)
@@ -55,17 +55,18 @@ pub record Fits (l : Layout) (f : Fields) : Type 0 where
 
 -- each field of a message is in the range of its kind
 abbrev pub IsMessage : Row → Type 0
-IsMessage r = Fits (layout_of (fields_of r).kind) (fields_of r)
+IsMessage m = FitsLayout (layout_of (fields_of m).kind) (fields_of m)
 
 -- THE RELATION: a front of the bytes spells the message
-pub record Begins (r : Row) (bytes : List ℕ) : Type 0 where
-  pub message : IsMessage r
+pub record Begins (m : Row) (bytes : List ℕ) : Type 0 where
+  pub message : IsMessage m
   pub rest : List ℕ
-  pub parts : bytes ≡ spelling r ++ rest
+  pub parts : bytes ≡ spelling m ++ rest
 
 -- whether it is so for the bytes 1 to 7, and for the address too
 abbrev pub header_fits : Layout → Fields → Bool
-header_fits l f = admits l.from f.from && admits l.to f.to && admits l.way f.way && admits l.state f.state && admits l.peer f.peer && admits l.peer_way f.peer_way && admits l.peer_state f.peer_state
+header_fits l f = admits l.from f.from && admits l.to f.to && admits l.way f.way && admits l.state f.state && admits l.peer f.peer
+    && admits l.peer_way f.peer_way && admits l.peer_state f.peer_state
 
 abbrev pub front_fits : Layout → Fields → Bool
 front_fits l f = header_fits l f && f.addr % unit_bytes l.address == 0

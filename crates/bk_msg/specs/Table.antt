@@ -62,7 +62,17 @@ fault_at _ place = faults.Field place
 
 -- only the two ends and an address are named, and nothing follows
 abbrev pub between : Rule → Rule → Aligns → Layout
-between from to address = record { from = from; to = to; way = Reserved; state = Reserved; peer = Reserved; peer_way = Reserved; peer_state = Reserved; address = address; load = loads.Nothing }
+between from to address = record {
+  from = from;
+  to = to;
+  way = Reserved;
+  state = Reserved;
+  peer = Reserved;
+  peer_way = Reserved;
+  peer_state = Reserved;
+  address = address;
+  load = loads.Nothing;
+}
 
 abbrev pub to_engine : Aligns → Layout
 to_engine = between Number (Only ENGINE)

@@ -17,7 +17,8 @@ use crate::table::{Load, Rule, layout_of};
 use arrayvec::ArrayVec;
 use bk_base::Addr;
 
-/// A message on its way: its spelling, of 16, 24 or 80 bytes, and the stamp of the event that sent it.
+/// A message on its way: its spelling, of 16, 24 or 80 bytes, and the stamp of the event that sent it. The list has room for more
+/// than the longest, which nothing uses.
 #[derive(Debug, Drop)]
 pub struct Packet {
     pub bytes: ArrayVec<u8, 96>,
@@ -186,13 +187,15 @@ pub fn decode(bytes: &[u8]) -> Result<(Message, usize), MsgFault>
     // What is read is a message that is spelled so.
     ensures found { IfOk result (λ x. Begins x.0 bytes.now × (x.1 ≡ length (spelling x.0))) }
     // What is spelled so is read, whatever follows it.
-    ensures only { (m : Row) (rest : List ℕ) → IsMessage m → bytes.now ≡ spelling m ++ rest → result ≡ Ok (m, length (spelling m)) }
+    ensures only { (m : Row) (rest : List ℕ) → IsMessage m → bytes.now ≡ spelling m ++ rest
+        → result ≡ Ok (m, length (spelling m)) }
     // What each fault says.
     ensures faults { IfErr result (λ fault. IsFaultOf bytes.now fault) }
     // A front of a message that isn't the whole is short.
     ensures short { IsProperFront bytes.now → IsErrAnd result IsShort }
     // Bytes that leave all spellings at a place, with no message before it, are bad there.
-    ensures bad { (place : ℕ) → IsLeastBad bytes.now place → ((m : Row) → Begins m bytes.now → ⊥) → IsErrAnd result (IsBadAt place) }
+    ensures bad { (place : ℕ) → IsLeastBad bytes.now place → ((m : Row) → Begins m bytes.now → ⊥)
+        → IsErrAnd result (IsBadAt place) }
     // Which fault it is.
     ensures exact { result ≡ decode bytes.now }
 {
@@ -201,5 +204,6 @@ pub fn decode(bytes: &[u8]) -> Result<(Message, usize), MsgFault>
 
 /// No message's spelling begins another's, so a stream of spellings is of one list of messages.
 pub fn one_spelling()
-    ensures { (a b : Row) (x y : List ℕ) → IsMessage a → IsMessage b → spelling a ++ x ≡ spelling b ++ y → (a ≡ b) × (x ≡ y) }
+    ensures { (a b : Row) (x y : List ℕ) → IsMessage a → IsMessage b → spelling a ++ x ≡ spelling b ++ y
+        → (a ≡ b) × (x ≡ y) }
 {}

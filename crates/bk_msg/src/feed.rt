@@ -100,7 +100,8 @@ fn read_messages(old: &[u8], piece: &[u8], out: &mut Vec<Message>) -> Result<Sto
 fn kept(fed: u64, stop: Stop) -> Feed
     requires within { length stop.rest.items + stop.left ≤ fed }
     requires partial { IsShort stop.fault → decode stop.rest.items ≡ Err stop.fault }
-    ensures { (rest : List ℕ) → length rest ≡ length stop.rest.items + stop.left → (IsShort stop.fault → rest ≡ stop.rest.items) → result ≡ stopped fed rest stop.fault }
+    ensures { (rest : List ℕ) → length rest ≡ length stop.rest.items + stop.left → (IsShort stop.fault → rest ≡ stop.rest.items)
+        → result ≡ stopped fed rest stop.fault }
 {
     match stop.fault {
         MsgFault::Short(_needed) => Feed {
@@ -194,7 +195,9 @@ impl Feed {
 /// the messages that the whole stream spells, up to a rest that begins with no message.
 pub fn any_pieces()
     // What a feed appends and keeps is what the whole stream spells.
-    ensures fed { (pieces : List (List ℕ)) (messages : List Row) (kept : Kept) → FeedsAll new_feed pieces messages kept → IsFedBy (joined pieces) messages kept }
+    ensures fed { (pieces : List (List ℕ)) (messages : List Row) (kept : Kept) → FeedsAll new_feed pieces messages kept
+        → IsFedBy (joined pieces) messages kept }
     // A stream spells one list of messages, up to one rest that begins with none, for one reason.
-    ensures one { (stream : List ℕ) (a b : List Row) (x y : List ℕ) (f g : MsgFault) → Splits stream a x f → Splits stream b y g → (a ≡ b) × (x ≡ y) × (f ≡ g) }
+    ensures one { (stream : List ℕ) (a b : List Row) (x y : List ℕ) (f g : MsgFault) → Splits stream a x f → Splits stream b y g
+        → (a ≡ b) × (x ≡ y) × (f ≡ g) }
 {}

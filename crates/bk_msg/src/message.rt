@@ -3,7 +3,7 @@ ghost use Rattle.std.specs.List.{AllByRecursion};
 ghost use Rattle.bk_base.specs.Places.{IsAddr};
 ghost use Rattle.bk_msg.specs.declared.row.Row.TheVariants.{Done};
 ghost use Rattle.bk_msg.specs.Table.{layout_of};
-ghost use Rattle.bk_msg.specs.Spelling.{IsMessage, IsWord, IsPayload, Fits, header_fits, front_fits};
+ghost use Rattle.bk_msg.specs.Spelling.{IsMessage, IsWord, IsPayload, FitsLayout, header_fits, front_fits};
 
 use crate::fields::{Fields, Payload, fields_of};
 use crate::row::{ENGINE, Row};
@@ -76,7 +76,7 @@ fn front_fits(layout: Layout, fields: &Fields) -> bool
 
 /// Whether each field is in the range that the line of its kind gives it.
 fn fits(fields: Fields) -> bool
-    ensures { IsTrue result ↔ Fits (layout_of fields.kind) fields }
+    ensures { IsTrue result ↔ FitsLayout (layout_of fields.kind) fields }
 {
     let layout = layout_of(fields.kind);
     let front = front_fits(layout, &fields);

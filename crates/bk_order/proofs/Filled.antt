@@ -5,65 +5,67 @@ use Rattle.bk_know.specs.declared.sets.Sets.{Sets}
 use Rattle.bk_know.specs.Sets.{any_empty}
 
 -- each field has a value
-pub record Filled (s : Sets) : Type 0 where
-  pub stage : (s.stage == 0) ≡ false
-  pub head : (s.head == 0) ≡ false
-  pub gp : (s.gp == 0) ≡ false
-  pub kind : (s.kind == 0) ≡ false
-  pub summ : (s.summ == 0) ≡ false
-  pub own : (s.own == 0) ≡ false
-  pub owner : (s.owner == 0) ≡ false
-  pub others : (s.others == 0) ≡ false
-  pub victim : (s.victim == 0) ≡ false
-  pub acks : (s.acks == 0) ≡ false
-  pub wb : (s.wb == 0) ≡ false
-  pub mem : (s.mem == 0) ≡ false
-  pub dreq : (s.dreq == 0) ≡ false
-  pub down : (s.down == 0) ≡ false
-  pub f0 : (s.f0 == 0) ≡ false
-  pub f1 : (s.f1 == 0) ≡ false
-  pub f2 : (s.f2 == 0) ≡ false
-  pub f3 : (s.f3 == 0) ≡ false
+pub record Filled (sets : Sets) : Type 0 where
+  pub stage : (sets.stage == 0) ≡ false
+  pub head : (sets.head == 0) ≡ false
+  pub gp : (sets.gp == 0) ≡ false
+  pub kind : (sets.kind == 0) ≡ false
+  pub summ : (sets.summ == 0) ≡ false
+  pub own : (sets.own == 0) ≡ false
+  pub owner : (sets.owner == 0) ≡ false
+  pub others : (sets.others == 0) ≡ false
+  pub victim : (sets.victim == 0) ≡ false
+  pub acks : (sets.acks == 0) ≡ false
+  pub wb : (sets.wb == 0) ≡ false
+  pub mem : (sets.mem == 0) ≡ false
+  pub dreq : (sets.dreq == 0) ≡ false
+  pub down : (sets.down == 0) ≡ false
+  pub f0 : (sets.f0 == 0) ≡ false
+  pub f1 : (sets.f1 == 0) ≡ false
+  pub f2 : (sets.f2 == 0) ≡ false
+  pub f3 : (sets.f3 == 0) ≡ false
 
-pub filled : (s : Sets) → any_empty s ≡ false → Filled s
-filled s e =
-    let q = or_parts _ _ e in
-    let a8 = or_parts _ _ q.0 in
-    let a7 = or_parts _ _ a8.0 in
-    let a6 = or_parts _ _ a7.0 in
-    let a5 = or_parts _ _ a6.0 in
-    let a4 = or_parts _ _ a5.0 in
-    let a3 = or_parts _ _ a4.0 in
-    let a2 = or_parts _ _ a3.0 in
-    let a1 = or_parts _ _ a2.0 in
-    let b8 = or_parts _ _ q.1 in
-    let b7 = or_parts _ _ b8.0 in
-    let b6 = or_parts _ _ b7.0 in
-    let b5 = or_parts _ _ b6.0 in
-    let b4 = or_parts _ _ b5.0 in
-    let b3 = or_parts _ _ b4.0 in
-    let b2 = or_parts _ _ b3.0 in
-    let b1 = or_parts _ _ b2.0 in
+-- `any_empty` is a chain of tests, one for each field
+pub filled : (sets : Sets) → any_empty sets ≡ false → Filled sets
+filled sets e =
+    let at-stage = or_parts _ _ e in
+    let at-head = or_parts _ _ at-stage.1 in
+    let at-gp = or_parts _ _ at-head.1 in
+    let at-kind = or_parts _ _ at-gp.1 in
+    let at-summ = or_parts _ _ at-kind.1 in
+    let at-own = or_parts _ _ at-summ.1 in
+    let at-owner = or_parts _ _ at-own.1 in
+    let at-others = or_parts _ _ at-owner.1 in
+    let at-victim = or_parts _ _ at-others.1 in
+    let at-acks = or_parts _ _ at-victim.1 in
+    let at-wb = or_parts _ _ at-acks.1 in
+    let at-mem = or_parts _ _ at-wb.1 in
+    let at-dreq = or_parts _ _ at-mem.1 in
+    let at-down = or_parts _ _ at-dreq.1 in
+    let at-f0 = or_parts _ _ at-down.1 in
+    let at-f1 = or_parts _ _ at-f0.1 in
+    let at-f2 = or_parts _ _ at-f1.1 in
+    let at-f3 = or_parts _ _ at-f2.1 in
     record {
-      stage = a1.0;
-      head = a1.1;
-      gp = a2.1;
-      kind = a3.1;
-      summ = a4.1;
-      own = a5.1;
-      owner = a6.1;
-      others = a7.1;
-      victim = a8.1;
-      acks = b1.0;
-      wb = b1.1;
-      mem = b2.1;
-      dreq = b3.1;
-      down = b4.1;
-      f0 = b5.1;
-      f1 = b6.1;
-      f2 = b7.1;
-      f3 = b8.1;
+      stage = at-stage.0;
+      head = at-head.0;
+      gp = at-gp.0;
+      kind = at-kind.0;
+      summ = at-summ.0;
+      own = at-own.0;
+      owner = at-owner.0;
+      others = at-others.0;
+      victim = at-victim.0;
+      acks = at-acks.0;
+      wb = at-wb.0;
+      mem = at-mem.0;
+      dreq = at-dreq.0;
+      down = at-down.0;
+      f0 = at-f0.0;
+      f1 = at-f1.0;
+      f2 = at-f2.0;
+      f3 = at-f3.0;
     }
 
-pub filled-some : (s : Sets) → Filled s → any_empty s ≡ false
-filled-some s h = search (or_from, h)
+pub filled-some : (sets : Sets) → Filled sets → any_empty sets ≡ false
+filled-some sets h = search (or_from, h)

@@ -6,31 +6,31 @@ use Rattle.bk_check.proofs.Least.{all_met}
 use Rattle.bk_check.specs.Obligations.{or_later, unmet_here, obligations, obligation_5, obligation_6, obligation_7, obligation_8, obligation_9, obligation_10, obligation_11, obligation_12, obligation_13, obligation_14, obligation_15, obligation_16, obligation_17, obligation_18, obligation_19, obligation_20, obligation_21, obligation_22, obligation_23}
 
 -- each obligation from the fifth on
-pub record Met (f : Form) (s : Sets) : Type 0 where
-  pub o5 : obligation_5 f s ≡ true
-  pub o6 : obligation_6 f s ≡ true
-  pub o7 : obligation_7 f s ≡ true
-  pub o8 : obligation_8 f s ≡ true
-  pub o9 : obligation_9 f s ≡ true
-  pub o10 : obligation_10 f s ≡ true
-  pub o11 : obligation_11 f s ≡ true
-  pub o12 : obligation_12 f s ≡ true
-  pub o13 : obligation_13 f s ≡ true
-  pub o14 : obligation_14 f s ≡ true
-  pub o15 : obligation_15 f s ≡ true
-  pub o16 : obligation_16 f s ≡ true
-  pub o17 : obligation_17 f s ≡ true
-  pub o18 : obligation_18 f s ≡ true
-  pub o19 : obligation_19 f s ≡ true
-  pub o20 : obligation_20 f s ≡ true
-  pub o21 : obligation_21 f s ≡ true
-  pub o22 : obligation_22 f s ≡ true
-  pub o23 : obligation_23 f s ≡ true
+pub record Met (f : Form) (sets : Sets) : Type 0 where
+  pub o5 : obligation_5 f sets ≡ true
+  pub o6 : obligation_6 f sets ≡ true
+  pub o7 : obligation_7 f sets ≡ true
+  pub o8 : obligation_8 f sets ≡ true
+  pub o9 : obligation_9 f sets ≡ true
+  pub o10 : obligation_10 f sets ≡ true
+  pub o11 : obligation_11 f sets ≡ true
+  pub o12 : obligation_12 f sets ≡ true
+  pub o13 : obligation_13 f sets ≡ true
+  pub o14 : obligation_14 f sets ≡ true
+  pub o15 : obligation_15 f sets ≡ true
+  pub o16 : obligation_16 f sets ≡ true
+  pub o17 : obligation_17 f sets ≡ true
+  pub o18 : obligation_18 f sets ≡ true
+  pub o19 : obligation_19 f sets ≡ true
+  pub o20 : obligation_20 f sets ≡ true
+  pub o21 : obligation_21 f sets ≡ true
+  pub o22 : obligation_22 f sets ≡ true
+  pub o23 : obligation_23 f sets ≡ true
 
 -- nothing is left unmet
-pub met : (f : Form) (s : Sets) → unmet_here f s ≡ None → Met f s
-met f s e =
-    let holds = all_met 5 (obligations f s) e in
+pub met : (f : Form) (sets : Sets) → unmet_here f sets ≡ None → Met f sets
+met f sets e =
+    let holds = all_met 5 (obligations f sets) e in
     record {
       o5 = holds 0 (omega arith);
       o6 = holds 1 (omega arith);
@@ -54,13 +54,13 @@ met f s e =
     }
 
 -- the first test holds, and those behind it
-pub first-met : (b : Bool) (k : ℕ) (r : Option ℕ) → or_later b k r ≡ None → (b ≡ true) × (r ≡ None)
-first-met true k r e = (refl, e)
-first-met false k r e = absurd (cc)
+pub first-met : (b : Bool) (number : ℕ) (r : Option ℕ) → or_later b number r ≡ None → (b ≡ true) × (r ≡ None)
+first-met true number r e = (refl, e)
+first-met false number r e = absurd (cc)
 
-met-later : (b : Bool) (k : ℕ) (r : Option ℕ) → b ≡ true → r ≡ None → or_later b k r ≡ None
-met-later true k r e q = q
-met-later false k r e q = absurd (cc)
+met-later : (b : Bool) (number : ℕ) (r : Option ℕ) → b ≡ true → r ≡ None → or_later b number r ≡ None
+met-later true number r e q = q
+met-later false number r e q = absurd (cc)
 
-pub none_unmet : (f : Form) (s : Sets) → Met f s → unmet_here f s ≡ None
-none_unmet f s m = search (met-later, m) depth 24
+pub none_unmet : (f : Form) (sets : Sets) → Met f sets → unmet_here f sets ≡ None
+none_unmet f sets m = search (met-later, m) depth 24

@@ -20,28 +20,36 @@ use Rattle.bk_order.proofs.Tests.{implied}
 use Rattle.bk_order.proofs.Fitting.{fits-within, obligations-fall, falls-lead, jumps-lead}
 
 -- what is owed at a place
-pub record Owed (image : Parts) (p : ℕ) (f : Form) (s : Sets) : Type 0 where
-  pub first : obligation_1 p s ≡ true
-  pub second : obligation_2 image p f s ≡ true
-  pub third : obligation_3 image p f s ≡ true
-  pub fourth : obligation_4 image p f s ≡ true
-  pub here : unmet_here f s ≡ None
+pub record Owed (image : Parts) (p : ℕ) (f : Form) (sets : Sets) : Type 0 where
+  pub first : obligation_1 p sets ≡ true
+  pub second : obligation_2 image p f sets ≡ true
+  pub third : obligation_3 image p f sets ≡ true
+  pub fourth : obligation_4 image p f sets ≡ true
+  pub here : unmet_here f sets ≡ None
 
-pub owed : (image : Parts) (p : ℕ) (f : Form) (s : Sets) → unmet_at image p ≡ None → slice_get image.instrs p ≡ Some f → sets_at image p ≡ Some s
-    → Owed image p f s
-owed image p f s met i j =
-    let all : unmet image p f s ≡ None = sym (unmet_at-sets image p f s i j) ∙ met in
-    let m1 = first-met (obligation_1 p s) 1 _ all in
-    let m2 = first-met (obligation_2 image p f s) 2 _ m1.1 in
-    let m3 = first-met (obligation_3 image p f s) 3 _ m2.1 in
-    let m4 = first-met (obligation_4 image p f s) 4 (unmet_here f s) m3.1 in
+pub owed : (image : Parts) (p : ℕ) (f : Form) (sets : Sets) → unmet_at image p ≡ None → slice_get image.instrs p ≡ Some f
+    → sets_at image p ≡ Some sets
+    → Owed image p f sets
+owed image p f sets met i j =
+    let all : unmet image p f sets ≡ None = sym (unmet_at-sets image p f sets i j) ∙ met in
+    let m1 = first-met (obligation_1 p sets) 1 _ all in
+    let m2 = first-met (obligation_2 image p f sets) 2 _ m1.1 in
+    let m3 = first-met (obligation_3 image p f sets) 3 _ m2.1 in
+    let m4 = first-met (obligation_4 image p f sets) 4 (unmet_here f sets) m3.1 in
     record { first = m1.0; second = m2.0; third = m3.0; fourth = m4.0; here = m4.1 }
 
 -- what leads into a place fits the sets there: its know line, or where there is none what falls in
-stands-on : (image : Parts) (p : ℕ) (line : Option Sets) (next e : Sets) → nat_lt p (length image.instrs) ≡ true → known image.knows p ≡ line
-    → or_else line (fall_into image p) ≡ or_else line (Some next) → fits_line (Some next) line ≡ true → Fits e next → Stands image p e
+stands-on : (image : Parts) (p : ℕ) (line : Option Sets) (next e : Sets) → nat_lt p (length image.instrs) ≡ true
+    → known image.knows p ≡ line
+    → or_else line (fall_into image p) ≡ or_else line (Some next) → fits_line (Some next) line ≡ true → Fits e next
+    → Stands image p e
 stands-on image p None next e l k i w f =
-    record { within = ltb-true p (length image.instrs) l; sets = next; at = ap (λ (o : Option Sets). or_else o (fall_into image p)) k ∙ i; fits = f }
+    record {
+      within = ltb-true p (length image.instrs) l;
+      sets = next;
+      at = ap (λ (o : Option Sets). or_else o (fall_into image p)) k ∙ i;
+      fits = f;
+    }
 stands-on image p (Some line) next e l k i w f =
     record {
       within = ltb-true p (length image.instrs) l;
@@ -51,12 +59,13 @@ stands-on image p (Some line) next e l k i w f =
     }
 
 -- to the next place
-pub falls-to : (image : Parts) (p : ℕ) (f : Form) (s e : Sets) → Owed image p f s → slice_get image.instrs p ≡ Some f → sets_at image p ≡ Some s
-    → Leads (fall f s) e → Stands image (p + 1) e
-falls-to image p f s e o i j l =
+pub falls-to : (image : Parts) (p : ℕ) (f : Form) (sets e : Sets) → Owed image p f sets → slice_get image.instrs p ≡ Some f
+    → sets_at image p ≡ Some sets
+    → Leads (fall f sets) e → Stands image (p + 1) e
+falls-to image p f sets e o i j l =
     stands-on image (p + 1) (known image.knows (p + 1)) l.next e
-    (implied (is_some_sets (fall f s)) (nat_lt (p + 1) (length image.instrs)) (ap is_some_sets l.is) (and_parts _ _ o.second).0) refl
-    (ap (or_else (known image.knows (p + 1))) (fall_into-more image p f s i j ∙ l.is))
+    (implied (is_some_sets (fall f sets)) (nat_lt (p + 1) (length image.instrs)) (ap is_some_sets l.is) (and_parts _ _ o.second).0) refl
+    (ap (or_else (known image.knows (p + 1))) (fall_into-more image p f sets i j ∙ l.is))
     (subst (λ (x : Option Sets). fits_line x (known image.knows (p + 1)) ≡ true) l.is (and_parts _ _ o.fourth).0) l.fits
 
 -- a branch's target has a know line
@@ -65,17 +74,21 @@ lined (Some line) o r e = refl
 lined None o r e = absurd (cc)
 
 -- to a branch's target
-pub jumps-to : (image : Parts) (p to : ℕ) (f : Form) (s e : Sets) → Owed image p f s → target f ≡ Some to → Leads (jump f s) e → Stands image to e
-jumps-to image p to f s e o t l =
+pub jumps-to : (image : Parts) (p to : ℕ) (f : Form) (sets e : Sets) → Owed image p f sets → target f ≡ Some to
+    → Leads (jump f sets) e
+    → Stands image to e
+jumps-to image p to f sets e o t l =
     let second = subst (λ (x : Option ℕ). obligation_2_target image x ≡ true) t (and_parts _ _ o.second).1 in
-    let fourth = subst (λ (x : Option ℕ). obligation_4_target image s f x ≡ true) t (and_parts _ _ o.fourth).1 in
+    let fourth = subst (λ (x : Option ℕ). obligation_4_target image sets f x ≡ true) t (and_parts _ _ o.fourth).1 in
     let there = and_parts (nat_lt to (length image.instrs)) (is_some_sets (known image.knows to)) second in
-    stands-on image to (known image.knows to) l.next e there.0 refl (lined (known image.knows to) (fall_into image to) (Some l.next) there.1)
+    stands-on image to (known image.knows to) l.next e there.0 refl
+    (lined (known image.knows to) (fall_into image to) (Some l.next) there.1)
     (subst (λ (x : Option Sets). fits_line x (known image.knows to) ≡ true) l.is fourth) l.fits
 
 -- an accepted place with an instruction has sets
-sets-by : (image : Parts) (p : ℕ) (f : Form) (x : Option Sets) → unmet_of image p (Some f) x ≡ None → (s : Sets) × (x ≡ Some s)
-sets-by image p f (Some s) e = (s, refl)
+sets-by : (image : Parts) (p : ℕ) (f : Form) (x : Option Sets) → unmet_of image p (Some f) x ≡ None
+    → (sets : Sets) × (x ≡ Some sets)
+sets-by image p f (Some sets) e = (sets, refl)
 sets-by image p f None e = absurd (cc)
 
 -- what enters at the start stands at place 0
@@ -83,11 +96,13 @@ starts : (image : Parts) → Accepted image → 0 < length image.instrs → Stan
 starts image accepted l =
     let f = get_or image.instrs 0 Defer in
     let at = slice_get-get_or image.instrs 0 Defer l in
-    let s = sets-by image 0 f (sets_at image 0) (ap (λ (o : Option Form). unmet_of image 0 o (sets_at image 0)) (sym at) ∙ accepted 0 l) in
+    let s = sets-by image 0 f (sets_at image 0) (ap (λ (o : Option Form). unmet_of image 0 o (sets_at image 0)) (sym at)
+    ∙ accepted 0 l) in
     record { within = l; sets = s.0; at = s.1; fits = from_within start s.0 (owed image 0 f s.0 (accepted 0 l) at s.1).first }
 
 -- the instruction where a mask stands
-module _ (image : Parts) (accepted : Accepted image) (p : ℕ) (e : Sets) (f : Form) (stands : Stands image p e) (at : slice_get image.instrs p ≡ Some f) where
+module _ (image : Parts) (accepted : Accepted image) (p : ℕ) (e : Sets) (f : Form) (stands : Stands image p e)
+    (at : slice_get image.instrs p ≡ Some f) where
   pub owed-there : Owed image p f stands.sets
   owed-there = owed image p f stands.sets (accepted p stands.within) at stands.at
 
@@ -98,7 +113,9 @@ module _ (image : Parts) (accepted : Accepted image) (p : ℕ) (e : Sets) (f : F
   falls next some there l =
       falls-to image p f stands.sets next owed-there at stands.at (falls-lead f e stands.sets next stands.fits some there owed-there.here l)
 
-  pub jumps : (to : ℕ) (next : Sets) → any_empty e ≡ false → any_empty next ≡ false → target f ≡ Some to → Leads (jump f e) next → Stands image to next
+  pub jumps : (to : ℕ) (next : Sets) → any_empty e ≡ false → any_empty next ≡ false → target f ≡ Some to
+      → Leads (jump f e) next
+      → Stands image to next
   jumps to next some there t l =
       jumps-to image p to f stands.sets next owed-there t (jumps-lead f e stands.sets next stands.fits some there owed-there.here l)
 

@@ -33,9 +33,10 @@ chain a b c p q =
 pub lacks-down : (a b c : ℕ) → subset a b ≡ true → lacks b c ≡ true → lacks a c ≡ true
 lacks-down a b c p q =
     let ab = same a b p in
-    eq-eqb (bit_and a c) 0 (ap (λ x. bit_and x c) (sym ab) ∙ (and_assoc c a b ∙ (ap (bit_and a) (eqb-true (bit_and b c) 0 q) ∙ and_zero_r a)))
+    eq-eqb (bit_and a c) 0 (ap (λ x. bit_and x c) (sym ab)
+    ∙ (and_assoc c a b ∙ (ap (bit_and a) (eqb-true (bit_and b c) 0 q) ∙ and_zero_r a)))
 
-may-up-by : (x y : Bool) → (y ≡ true → x ≡ true) → not x ≡ true → not y ≡ true
+may-up-by : (b y : Bool) → (y ≡ true → b ≡ true) → not b ≡ true → not y ≡ true
 may-up-by true y h e = absurd (cc)
 may-up-by false true h e = absurd (let g = h refl in cc)
 may-up-by false false h e = refl
@@ -44,23 +45,25 @@ pub may-up : (a b c : ℕ) → subset a b ≡ true → may a c ≡ true → may 
 may-up a b c p e = may-up-by (lacks a c) (lacks b c) (lacks-down a b c p) e
 
 -- a subset of a set of one value, that isn't empty, is that set
-pub one-down : (k a b : ℕ) → subset a b ≡ true → (a == 0) ≡ false → (b == only k) ≡ true → (a == only k) ≡ true
-one-down k a b p some one =
+pub one-down : (number a b : ℕ) → subset a b ≡ true → (a == 0) ≡ false → (b == only number) ≡ true
+    → (a == only number) ≡ true
+one-down number a b p some one =
     let ab = same a b p in
-    let c = eqb-true b (2 ^ k) one in
-    let at = sym (and_pow a k) ∙ (ap (bit_and a) (sym c) ∙ ab) in
-    let l = bit_at-lt a k in
-    eq-eqb a (2 ^ k) (grind (arith, nat_tests, at, l, eqb-false a 0 some))
+    let c = eqb-true b (2 ^ number) one in
+    let at = sym (and_pow a number) ∙ (ap (bit_and a) (sym c) ∙ ab) in
+    let l = bit_at-lt a number in
+    eq-eqb a (2 ^ number) (grind (arith, nat_tests, at, l, eqb-false a 0 some))
 
 -- `&` is the greatest set below both
 pub and-left : (a b : ℕ) → subset (bit_and a b) a ≡ true
-and-left a b = from_same (bit_and a b) a (and_assoc a a b ∙ (ap (bit_and a) (and_comm b a) ∙ (sym (and_assoc b a a) ∙ ap (λ x. bit_and x b) (and_self a))))
+and-left a b = from_same (bit_and a b) a (and_assoc a a b
+    ∙ (ap (bit_and a) (and_comm b a) ∙ (sym (and_assoc b a a) ∙ ap (λ x. bit_and x b) (and_self a))))
 
 pub and-right : (a b : ℕ) → subset (bit_and a b) b ≡ true
 and-right a b = from_same (bit_and a b) b (and_assoc b a b ∙ ap (bit_and a) (and_self b))
 
-pub and-both : (x a b : ℕ) → subset x a ≡ true → subset x b ≡ true → subset x (bit_and a b) ≡ true
-and-both x a b p q = from_same x (bit_and a b) (sym (and_assoc b x a) ∙ (ap (λ y. bit_and y b) (same x a p) ∙ same x b q))
+pub and-both : (n a b : ℕ) → subset n a ≡ true → subset n b ≡ true → subset n (bit_and a b) ≡ true
+and-both n a b p q = from_same n (bit_and a b) (sym (and_assoc b n a) ∙ (ap (λ y. bit_and y b) (same n a p) ∙ same n b q))
 
 pub and-up : (a b c : ℕ) → subset a b ≡ true → subset (bit_and a c) (bit_and b c) ≡ true
 and-up a b c p = and-both (bit_and a c) b c (chain (bit_and a c) a b (and-left a c) p) (and-right a c)

@@ -5,9 +5,11 @@ use Rattle.std.proofs.lemmas.List.{take_all, length-drop}
 use Rattle.bk_outer.specs.Sink.{appended}
 
 -- a piece after the first n bytes of a text
-pub appended-take : (before : Option (List ℕ)) (text : List ℕ) (n m : ℕ) → appended (appended before (take n text)) (take m (drop n text)) ≡ appended before (take (n + m) text)
-appended-take None text n m = refl
-appended-take (Some bytes) text n m = ap Some (append_assoc bytes (take n text) (take m (drop n text)) ∙ ap (λ xs. bytes ++ xs) (sym (take-add n m text)))
+pub appended-take : (before : Option (List ℕ)) (text : List ℕ) (n number : ℕ)
+    → appended (appended before (take n text)) (take number (drop n text)) ≡ appended before (take (n + number) text)
+appended-take None text n number = refl
+appended-take (Some bytes) text n number =
+    ap Some (append_assoc bytes (take n text) (take number (drop n text)) ∙ ap (λ xs. bytes ++ xs) (sym (take-add n number text)))
 
 -- the rest of a text, as a slice
 pub rest-is : (text : List ℕ) (n : ℕ) → take (length text - n) (drop n text) ≡ drop n text

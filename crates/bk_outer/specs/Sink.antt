@@ -9,7 +9,8 @@ abbrev pub appended : Option (List ℕ) → List ℕ → Option (List ℕ)
 appended None piece = None
 appended (Some bytes) piece = Some (bytes ++ piece)
 
--- a sink in memory: its bytes, how many it takes at a time, the numbers of the calls that fail, how many calls it has had, and its count of failures
+-- a sink in memory: its bytes, how many it takes at a time, the numbers of the calls that fail, how many calls it has had, and its
+-- count of failures
 pub record MemorySink : Type 0 where
   pub bytes : List ℕ
   pub chunk : ℕ

@@ -21,7 +21,13 @@ impl Model for MemShelf {
 
     ghost Value = { MemoryShelf };
 
-    ghost view = { λ s. record { files = s.files.items; failing = s.failing.items; calls = s.calls; faults = s.faults; misses = s.misses } };
+    ghost view = { λ s. record {
+      files = s.files.items;
+      failing = s.failing.items;
+      calls = s.calls;
+      faults = s.faults;
+      misses = s.misses;
+    } };
 }
 
 /// The bytes of the first file with this name.
@@ -85,7 +91,8 @@ impl Shelf for MemShelf {
         ensures missed { result ≡ Err ReadAnswer.Absent → Rose self.old.misses self.new.misses }
         ensures absent { result ≡ Err ReadAnswer.Absent → file_in self.old.files name.now ≡ None }
         ensures passed_over { result ≡ Err ReadAnswer.TooLong → Rose self.old.misses self.new.misses }
-        ensures too_long { result ≡ Err ReadAnswer.TooLong → IsSomeAnd (file_in self.old.files name.now) (λ bytes. FILE_LIMIT < length bytes) }
+        ensures too_long { result ≡ Err ReadAnswer.TooLong
+            → IsSomeAnd (file_in self.old.files name.now) (λ bytes. FILE_LIMIT < length bytes) }
         ensures same_files { self.new.files ≡ self.old.files }
         ensures faults_kept { self.old.faults ≤ self.new.faults }
         ensures misses_kept { self.old.misses ≤ self.new.misses }

@@ -40,7 +40,8 @@ pub trait Shelf {
         ensures missed { result ≡ Err ReadAnswer.Absent → Rose (misses self.old) (misses self.new) }
         ensures absent { result ≡ Err ReadAnswer.Absent → IfSome (files self.old) (λ at. at name.now ≡ None) }
         ensures passed_over { result ≡ Err ReadAnswer.TooLong → Rose (misses self.old) (misses self.new) }
-        ensures too_long { result ≡ Err ReadAnswer.TooLong → IfSome (files self.old) (λ at. IsSomeAnd (at name.now) (λ bytes. FILE_LIMIT < length bytes)) }
+        ensures too_long { result ≡ Err ReadAnswer.TooLong
+            → IfSome (files self.old) (λ at. IsSomeAnd (at name.now) (λ bytes. FILE_LIMIT < length bytes)) }
 
         // What stays.
         ensures same_files { files self.new ≡ files self.old }

@@ -39,8 +39,10 @@ impl<'a, R: Print> Sink for StdSink<'a, R> {
         requires { 0 < length piece.now }
         ensures some { IfOk result (λ n. 1 ≤ n) }
         ensures bound { IfOk result (λ n. n ≤ length piece.now) }
-        ensures takes { IfOk result (λ n. ⟦<StdSink<'a, R> as Sink>⟧.taken self.new ≡ appended (⟦<StdSink<'a, R> as Sink>⟧.taken self.old) (take n piece.now)) }
-        ensures takes_nothing { OnErr result (⟦<StdSink<'a, R> as Sink>⟧.taken self.new ≡ ⟦<StdSink<'a, R> as Sink>⟧.taken self.old) }
+        ensures takes { IfOk result (λ n. ⟦<StdSink<'a, R> as Sink>⟧.taken self.new
+            ≡ appended (⟦<StdSink<'a, R> as Sink>⟧.taken self.old) (take n piece.now)) }
+        ensures takes_nothing { OnErr result (⟦<StdSink<'a, R> as Sink>⟧.taken self.new
+            ≡ ⟦<StdSink<'a, R> as Sink>⟧.taken self.old) }
         ensures failed { result ≡ Err WriteAnswer.Failed → Rose self.old self.new }
         ensures faults_kept { self.old ≤ self.new }
         ensures faults_last { self.old ≡ 2 ^ 64 - 1 → self.new ≡ 2 ^ 64 - 1 }

@@ -1,10 +1,12 @@
 pub mod Begun
-pub mod Counted
+pub mod CountBounds
 pub mod Ends
 pub mod InOrder
 pub mod Issues
 pub mod Lawful
 pub mod Lines
+pub mod LogLines
+pub mod Logging
 pub mod Prefixes
 pub mod RowOne
 pub mod Scheduling

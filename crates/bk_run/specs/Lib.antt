@@ -1,6 +1,7 @@
-pub mod Counted
-pub mod Faults
+pub mod Completion
+pub mod CountBounds
 pub mod Greedy
+pub mod Jobs
+pub mod Log
 pub mod Report
 pub mod Serial
-pub mod Whole

@@ -27,35 +27,48 @@ use Rattle.bk_system.specs.Runs.{after, run, IsComplete}
 -- Counts of the events that were enabled, by kind, and of the messages that they sent, by network.
 
 abbrev pub no_counts : Counts
-no_counts = record { issue = 0; command = 0; fill = 0; memory = 0; engine = 0; requests = 0; commands = 0; fills = 0; responses = 0; memouts = 0; memins = 0 }
+no_counts = record {
+  issue = 0;
+  command = 0;
+  fill = 0;
+  memory = 0;
+  engine = 0;
+  requests = 0;
+  commands = 0;
+  fills = 0;
+  responses = 0;
+  memouts = 0;
+  memins = 0;
+}
 
 abbrev pub count_event : Counts → Event → Counts
-count_event n (events.Issue _ _ _) = record n { issue = n.issue + 1 }
-count_event n (events.Command _) = record n { command = n.command + 1 }
-count_event n (events.Fill _ _) = record n { fill = n.fill + 1 }
-count_event n events.Memory = record n { memory = n.memory + 1 }
-count_event n (events.Engine _) = record n { engine = n.engine + 1 }
+count_event counts (events.Issue _ _ _) = record counts { issue = counts.issue + 1 }
+count_event counts (events.Command _) = record counts { command = counts.command + 1 }
+count_event counts (events.Fill _ _) = record counts { fill = counts.fill + 1 }
+count_event counts events.Memory = record counts { memory = counts.memory + 1 }
+count_event counts (events.Engine _) = record counts { engine = counts.engine + 1 }
 
 abbrev pub count_network : Counts → Network → Counts
-count_network n networks.Request = record n { requests = n.requests + 1 }
-count_network n networks.Command = record n { commands = n.commands + 1 }
-count_network n networks.Fill = record n { fills = n.fills + 1 }
-count_network n networks.Response = record n { responses = n.responses + 1 }
-count_network n networks.Memout = record n { memouts = n.memouts + 1 }
-count_network n networks.Memin = record n { memins = n.memins + 1 }
+count_network counts networks.Request = record counts { requests = counts.requests + 1 }
+count_network counts networks.Command = record counts { commands = counts.commands + 1 }
+count_network counts networks.Fill = record counts { fills = counts.fills + 1 }
+count_network counts networks.Response = record counts { responses = counts.responses + 1 }
+count_network counts networks.Memout = record counts { memouts = counts.memouts + 1 }
+count_network counts networks.Memin = record counts { memins = counts.memins + 1 }
 
 abbrev pub count_sent : Counts → List Row → Counts
-count_sent n [] = n
-count_sent n (m ∷ ms) = count_sent (count_network n (network_of m)) ms
+count_sent counts [] = counts
+count_sent counts (m ∷ ms) = count_sent (count_network counts (network_of m)) ms
 
 -- an event that isn't enabled isn't counted
 abbrev pub count_row : Counts → Event → Option Happening → Counts
-count_row n event None = n
-count_row n event (Some happening) = count_sent (count_event n event) happening.sent
+count_row counts event None = counts
+count_row counts event (Some happening) = count_sent (count_event counts event) happening.sent
 
 abbrev pub counts_from : Shape → List Form → State → Counts → List Event → Counts
-counts_from k program s n [] = n
-counts_from k program s n (event ∷ events) = counts_from k program (after k program s event) (count_row n event (row k program s event)) events
+counts_from k program s counts [] = counts
+counts_from k program s counts (event ∷ events) =
+    counts_from k program (after k program s event) (count_row counts event (row k program s event)) events
 
 abbrev pub counts_of : Shape → List Form → List Event → Counts
 counts_of k program events = counts_from k program (opening k) no_counts events
@@ -73,12 +86,15 @@ abbrev pub done_text : Done → List ℕ
 done_text done = operation_text done.cache done.op ++ answer_text done.op done.answer ++ codes "\n"
 
 abbrev pub events_text : Counts → List ℕ
-events_text n = codes "events issue " ++ decimal n.issue ++ codes " command " ++ decimal n.command ++ codes " fill " ++ decimal n.fill
-    ++ codes " memory " ++ decimal n.memory ++ codes " engine " ++ decimal n.engine ++ codes "\n"
+events_text counts = codes "events issue " ++ decimal counts.issue ++ codes " command " ++ decimal counts.command ++ codes " fill "
+    ++ decimal counts.fill
+    ++ codes " memory " ++ decimal counts.memory ++ codes " engine " ++ decimal counts.engine ++ codes "\n"
 
 abbrev pub messages_text : Counts → List ℕ
-messages_text n = codes "messages request " ++ decimal n.requests ++ codes " command " ++ decimal n.commands ++ codes " fill " ++ decimal n.fills
-    ++ codes " response " ++ decimal n.responses ++ codes " memout " ++ decimal n.memouts ++ codes " memin " ++ decimal n.memins ++ codes "\n"
+messages_text counts = codes "messages request " ++ decimal counts.requests ++ codes " command " ++ decimal counts.commands
+    ++ codes " fill " ++ decimal counts.fills
+    ++ codes " response " ++ decimal counts.responses ++ codes " memout " ++ decimal counts.memouts ++ codes " memin "
+    ++ decimal counts.memins ++ codes "\n"
 
 -- the letter of a state
 abbrev pub letter_of : Coh → List ℕ
@@ -91,15 +107,16 @@ letter_of states.O = codes "O"
 
 -- an entry that holds a block
 abbrev pub line_text_in : ℕ → ℕ → ℕ → Line → Coh → List ℕ
-line_text_in c s w line states.I = []
-line_text_in c s w line state = codes "cache " ++ decimal c ++ codes " set " ++ decimal s ++ codes " way " ++ decimal w ++ codes " tag " ++ hexadecimal line.tag ++ codes " " ++ letter_of state ++ codes "\n"
+line_text_in c set_number w line states.I = []
+line_text_in c set_number w line state = codes "cache " ++ decimal c ++ codes " set " ++ decimal set_number ++ codes " way " ++ decimal w
+    ++ codes " tag " ++ hexadecimal line.tag ++ codes " " ++ letter_of state ++ codes "\n"
 
 abbrev pub line_text : ℕ → ℕ → ℕ → Line → List ℕ
-line_text c s w line = line_text_in c s w line line.state
+line_text c set w line = line_text_in c set w line line.state
 
 -- the entries by cache, set and way
 abbrev pub set_text : Shape → (ℕ → CacheState) → ℕ → ℕ → List ℕ
-set_text k caches c s = join_below k.ways (λ w. line_text c s w ((caches c).lines s w))
+set_text k caches c set = join_below k.ways (λ w. line_text c set w ((caches c).lines set w))
 
 abbrev pub cache_text : Shape → (ℕ → CacheState) → ℕ → List ℕ
 cache_text k caches c = join_below k.sets (set_text k caches c)
@@ -111,7 +128,8 @@ abbrev pub end_text : Bool → List ℕ
 end_text complete = if complete then codes "end rested\n" else codes "end unrested\n"
 
 abbrev pub report_text : Shape → State → Counts → Bool → List ℕ
-report_text k s n complete = flat_map done_text s.history ++ events_text n ++ messages_text n ++ lines_text k s.caches ++ end_text complete
+report_text k s counts complete = flat_map done_text s.history ++ events_text counts ++ messages_text counts ++ lines_text k s.caches
+    ++ end_text complete
 
 -- The bytes are the report of the events: its last line says whether they do all of the trace.
 abbrev pub IsReport : Shape → List Form → List (ℕ × Op) → List Event → List ℕ → Type 0

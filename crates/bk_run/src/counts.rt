@@ -1,10 +1,10 @@
 ghost use Rattle.std.specs.Prelude.{◌≡◌, ℕ, ◌+◌, ◌^◌};
 ghost use Rattle.bk_run.specs.Report.{no_counts, count_event, count_network};
-ghost use Rattle.bk_run.specs.Counted.{IsAtMost};
+ghost use Rattle.bk_run.specs.CountBounds.{IsAtMost};
 ghost use Rattle.bk_msg.specs.Networks.{network_of};
 
 use bk_msg::{Message, Network};
-use bk_system::Event;
+use bk_system::{Event, MOST_SENT};
 
 /// How many events of each kind were enabled, and how many messages they sent in each network.
 #[derive(Clone, Copy, Debug, PartialEq, Eq)]
@@ -59,7 +59,7 @@ impl Counts {
 
     /// Counts a message, by its network.
     pub(crate) fn add_message(&mut self, message: &Message)
-        requires { IsAtMost (2 ^ 63) (2 ^ 63 + 16) self.old }
+        requires { IsAtMost (2 ^ 63) (2 ^ 63 + MOST_SENT) self.old }
         ensures value { self.new ≡ count_network self.old (network_of message.now) }
         ensures grows { (events messages : ℕ) → IsAtMost events messages self.old → IsAtMost events (messages + 1) self.new }
     {
@@ -67,7 +67,7 @@ impl Counts {
     }
 
     fn add_network(&mut self, network: Network)
-        requires { IsAtMost (2 ^ 63) (2 ^ 63 + 16) self.old }
+        requires { IsAtMost (2 ^ 63) (2 ^ 63 + MOST_SENT) self.old }
         ensures { self.new ≡ count_network self.old network }
     {
         match network {

@@ -2,16 +2,16 @@ ghost use Rattle.std.specs.Prelude.{◌≡◌, ◌≤◌, ◌<◌, length, IfSom
 ghost use Rattle.std.specs.Option.{option_copied};
 ghost use Rattle.std.specs.Fn.{FnReturnsAt};
 ghost use Rattle.bk_base.specs.Counting.{first_below};
-ghost use Rattle.bk_lce.specs.Asked.{IsPolicy};
-ghost use Rattle.bk_run.specs.Greedy.{ready, engine_of, fill_from, if_enabled, least_other, next_operation, IsLeast, IsEnd};
+ghost use Rattle.bk_lce.specs.Policies.{IsPolicy};
+ghost use Rattle.bk_run.specs.Greedy.{ready_operation, engine_event, fill_event, if_enabled, least_other, next_operation, IsLeast, IsEnd};
 ghost use Rattle.bk_system.specs.Systems.{state_of};
 ghost use Rattle.bk_system.specs.declared.event.Event.TheVariants.{Command};
 
 use bk_base::{Op, group_of};
-use bk_engine::Choice;
+use bk_engine::{CLASS_MEMORY, CLASS_NONE, CLASS_REQUEST, CLASS_RESPONSE, Choice};
 use bk_isa::Instr;
 use bk_lce::{Victim, WayView, address_of};
-use bk_system::{Event, Hardware, MEMORY_ANSWERS, REQUESTS, RESPONSES};
+use bk_system::{Event, Hardware};
 use bk_trace::Trace;
 
 /// The next operation of a cache in the trace: number n of its own, where n is how many have completed.
@@ -35,13 +35,18 @@ fn if_enabled(hardware: &Hardware, program: &[Instr], event: Event) -> Option<Ev
     }
 }
 
-/// A cache with its next operation, if there is one and the cache may issue it. Whether it may doesn't hang on the way.
-fn ready(hardware: &Hardware, program: &[Instr], trace: &Trace, cache: u8) -> Option<(u8, Op)>
+/// A cache with its next operation, if there is one and the cache may issue it. Whether it may doesn't depend on the way.
+fn ready_operation(
+    hardware: &Hardware,
+    program: &[Instr],
+    trace: &Trace,
+    cache: u8,
+) -> Option<(u8, Op)>
     requires few { length program.now ≤ 256 }
     requires config { trace.now.config ≡ hardware.now.config }
     requires cache { cache < hardware.now.config.caches }
     ensures own { IfSome result (λ at. at.0 ≡ cache) }
-    ensures value { result ≡ ready hardware.now.config program.now (state_of hardware.now) trace.now.lines cache }
+    ensures value { result ≡ ready_operation hardware.now.config program.now (state_of hardware.now) trace.now.lines cache }
 {
     // Most caches are busy, so that is asked first.
     if hardware.cache(cache).busy() {
@@ -68,10 +73,11 @@ fn first_ready(hardware: &Hardware, program: &[Instr], trace: &Trace) -> Option<
     requires few { length program.now ≤ 256 }
     requires config { trace.now.config ≡ hardware.now.config }
     ensures cache { IfSome result (λ at. at.0 < hardware.now.config.caches) }
-    ensures first { result ≡ first_below hardware.now.config.caches (ready hardware.now.config program.now (state_of hardware.now) trace.now.lines) }
+    ensures first { result ≡ first_below hardware.now.config.caches
+        (ready_operation hardware.now.config program.now (state_of hardware.now) trace.now.lines) }
 {
     for cache in 0..hardware.cache_count() {
-        match ready(hardware, program, trace, cache) {
+        match ready_operation(hardware, program, trace, cache) {
             None => {}
             Some(at) => return Some(at),
         }
@@ -79,9 +85,9 @@ fn first_ready(hardware: &Hardware, program: &[Instr], trace: &Trace) -> Option<
     None
 }
 
-fn engine_of(hardware: &Hardware, program: &[Instr], class: u8, source: u8) -> Option<Event>
+fn engine_event(hardware: &Hardware, program: &[Instr], class: u8, source: u8) -> Option<Event>
     requires { length program.now ≤ 256 }
-    ensures { result ≡ engine_of hardware.now.config program.now (state_of hardware.now) class source }
+    ensures { result ≡ engine_event hardware.now.config program.now (state_of hardware.now) class source }
 {
     if_enabled(
         hardware,
@@ -94,10 +100,11 @@ fn engine_of(hardware: &Hardware, program: &[Instr], class: u8, source: u8) -> O
 
 fn first_engine(hardware: &Hardware, program: &[Instr], class: u8) -> Option<Event>
     requires { length program.now ≤ 256 }
-    ensures { result ≡ first_below hardware.now.config.caches (engine_of hardware.now.config program.now (state_of hardware.now) class) }
+    ensures { result ≡ first_below hardware.now.config.caches
+        (engine_event hardware.now.config program.now (state_of hardware.now) class) }
 {
     for source in 0..hardware.cache_count() {
-        match engine_of(hardware, program, class, source) {
+        match engine_event(hardware, program, class, source) {
             None => {}
             Some(event) => return Some(event),
         }
@@ -107,7 +114,8 @@ fn first_engine(hardware: &Hardware, program: &[Instr], class: u8) -> Option<Eve
 
 fn first_command(hardware: &Hardware, program: &[Instr]) -> Option<Event>
     requires { length program.now ≤ 256 }
-    ensures { result ≡ first_below hardware.now.config.caches (λ c. if_enabled hardware.now.config program.now (state_of hardware.now) (Command c)) }
+    ensures { result ≡ first_below hardware.now.config.caches
+        (λ c. if_enabled hardware.now.config program.now (state_of hardware.now) (Command c)) }
 {
     for cache in 0..hardware.cache_count() {
         match if_enabled(hardware, program, Event::Command { cache }) {
@@ -118,19 +126,19 @@ fn first_command(hardware: &Hardware, program: &[Instr]) -> Option<Event>
     None
 }
 
-fn fill_from(hardware: &Hardware, program: &[Instr], to: u8, from: u8) -> Option<Event>
+fn fill_event(hardware: &Hardware, program: &[Instr], to: u8, from: u8) -> Option<Event>
     requires { length program.now ≤ 256 }
-    ensures { result ≡ fill_from hardware.now.config program.now (state_of hardware.now) to from }
+    ensures { result ≡ fill_event hardware.now.config program.now (state_of hardware.now) to from }
 {
     if_enabled(hardware, program, Event::Fill { to, from })
 }
 
 fn first_fill_to(hardware: &Hardware, program: &[Instr], to: u8) -> Option<Event>
     requires { length program.now ≤ 256 }
-    ensures { result ≡ first_below hardware.now.config.caches (fill_from hardware.now.config program.now (state_of hardware.now) to) }
+    ensures { result ≡ first_below hardware.now.config.caches (fill_event hardware.now.config program.now (state_of hardware.now) to) }
 {
     for from in 0..hardware.cache_count() {
-        match fill_from(hardware, program, to, from) {
+        match fill_event(hardware, program, to, from) {
             None => {}
             Some(event) => return Some(event),
         }
@@ -140,7 +148,8 @@ fn first_fill_to(hardware: &Hardware, program: &[Instr], to: u8) -> Option<Event
 
 fn first_fill(hardware: &Hardware, program: &[Instr]) -> Option<Event>
     requires { length program.now ≤ 256 }
-    ensures { result ≡ first_below hardware.now.config.caches (λ to. first_below hardware.now.config.caches (fill_from hardware.now.config program.now (state_of hardware.now) to)) }
+    ensures { result ≡ first_below hardware.now.config.caches
+        (λ to. first_below hardware.now.config.caches (fill_event hardware.now.config program.now (state_of hardware.now) to)) }
 {
     for to in 0..hardware.cache_count() {
         match first_fill_to(hardware, program, to) {
@@ -156,16 +165,16 @@ pub(crate) fn least_other(hardware: &Hardware, program: &[Instr]) -> Option<Even
     requires { length program.now ≤ 256 }
     ensures { result ≡ least_other hardware.now.config program.now (state_of hardware.now) }
 {
-    if let Some(event) = engine_of(hardware, program, 0, 0) {
+    if let Some(event) = engine_event(hardware, program, CLASS_NONE, 0) {
         return Some(event);
     }
-    if let Some(event) = first_engine(hardware, program, RESPONSES) {
+    if let Some(event) = first_engine(hardware, program, CLASS_RESPONSE) {
         return Some(event);
     }
-    if let Some(event) = engine_of(hardware, program, MEMORY_ANSWERS, 0) {
+    if let Some(event) = engine_event(hardware, program, CLASS_MEMORY, 0) {
         return Some(event);
     }
-    if let Some(event) = first_engine(hardware, program, REQUESTS) {
+    if let Some(event) = first_engine(hardware, program, CLASS_REQUEST) {
         return Some(event);
     }
     if let Some(event) = first_command(hardware, program) {

@@ -1,15 +1,18 @@
-//! Whole runs of a system: the greedy schedule, when a run does all of a trace, and its report.
+//! Whole runs of a system: the greedy schedule, when a run does all of a trace, its report and its log.
 #![tactic(auto)]
 
-mod complete;
+mod completion;
 mod counts;
 mod greedy;
+mod log_text;
+mod logs;
+mod report_text;
 mod reports;
-mod runs;
+mod serial_runs;
 mod system;
-mod text;
 
 pub use counts::Counts;
+pub use logs::log;
 pub use reports::report;
-pub use runs::{ReportedRun, RunEnd, SerialFault, budget, serial, serial_report};
+pub use serial_runs::{ReportedRun, RunEnd, SerialFault, budget, serial, serial_report};
 pub use system::System;

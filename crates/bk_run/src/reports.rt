@@ -1,25 +1,25 @@
 ghost use Rattle.std.specs.Prelude.{◌≡◌, ◌+◌, ◌*◌, ◌≤◌, ◌^◌, ℕ, length, IfOk, OnOk};
-ghost use Rattle.bk_run.specs.Counted.{IsAtMost};
+ghost use Rattle.bk_run.specs.CountBounds.{IsAtMost};
 ghost use Rattle.bk_system.specs.Events.{row};
 ghost use Rattle.bk_system.specs.Runs.{after, run};
 ghost use Rattle.bk_run.specs.Report.{IsReport, no_counts, count_sent, count_row, counts_of};
 ghost use Rattle.bk_system.specs.State.{opening};
 ghost use Rattle.bk_system.specs.Systems.{state_of};
 
-use crate::complete::is_done;
+use crate::completion::is_done;
 use crate::counts::Counts;
-use crate::text::report_bytes;
+use crate::report_text::report_bytes;
 use bk_base::Config;
 use bk_image::Image;
 use bk_isa::Instr;
 use bk_msg::Message;
-use bk_system::{Event, Hardware};
+use bk_system::{Event, Hardware, MOST_SENT};
 use bk_trace::Trace;
 use std::alloc::{AllocError, Global};
 
 /// Counts messages, by their networks.
 fn count_messages(counts: &mut Counts, messages: &[Message])
-    requires few { length messages.now ≤ 16 }
+    requires few { length messages.now ≤ MOST_SENT }
     requires room { IsAtMost (2 ^ 63) (2 ^ 63) counts.old }
     ensures value { counts.new ≡ count_sent counts.old messages.now }
     ensures grows { (e m : ℕ) → IsAtMost e m counts.old → IsAtMost e (m + length messages.now) counts.new }
@@ -54,10 +54,13 @@ impl Counted {
     pub(crate) fn step(&mut self, program: &[Instr], event: &Event) -> Result<(), AllocError>
         requires few { length program.now ≤ 256 }
         requires room { IsAtMost (2 ^ 59) (2 ^ 63) self.old.counts }
-        ensures state { OnOk result (state_of self.new.hardware ≡ after self.old.hardware.config program.now (state_of self.old.hardware) event.now) }
-        ensures counts { OnOk result (self.new.counts ≡ count_row self.old.counts event.now (row self.old.hardware.config program.now (state_of self.old.hardware) event.now)) }
+        ensures state { OnOk result (state_of self.new.hardware
+            ≡ after self.old.hardware.config program.now (state_of self.old.hardware) event.now) }
+        ensures counts { OnOk result (self.new.counts
+            ≡ count_row self.old.counts event.now (row self.old.hardware.config program.now (state_of self.old.hardware) event.now)) }
         ensures config { self.new.hardware.config ≡ self.old.hardware.config }
-        ensures grows { (n : ℕ) → IsAtMost n (16 * n) self.old.counts → IsAtMost (n + 1) (16 * (n + 1)) self.new.counts }
+        ensures grows { (n : ℕ) → IsAtMost n (MOST_SENT * n) self.old.counts
+            → IsAtMost (n + 1) (MOST_SENT * (n + 1)) self.new.counts }
     {
         match self.hardware.step(program, event) {
             Ok(true) => {

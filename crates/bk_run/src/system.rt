@@ -1,6 +1,6 @@
 ghost use Rattle.std.specs.Prelude.{◌≡◌, ◌≤◌, length, IfOk, OnOk, OnErr, MatchOption};
 ghost use Rattle.std.specs.Fn.{FnReturnsAt};
-ghost use Rattle.bk_lce.specs.Asked.{IsPolicy};
+ghost use Rattle.bk_lce.specs.Policies.{IsPolicy};
 ghost use Rattle.bk_run.specs.Greedy.{IsLeast, IsEnd};
 ghost use Rattle.bk_system.specs.Runs.{after, is_enabled, is_quiet, is_rested};
 ghost use Rattle.bk_system.specs.State.{opening};
@@ -33,11 +33,12 @@ impl<F: Fn(&[WayView]) -> u8 + Copy + Send> System<F> {
         Ok(System { hardware, victim })
     }
 
-    /// One event: whether it was enabled. One that isn't changes nothing, and neither does want of memory.
+    /// One event: whether it was enabled. One that isn't changes nothing, and neither does one for which memory runs out.
     pub fn step(&mut self, program: &[Instr], event: &Event) -> Result<bool, AllocError>
         requires { length program.now ≤ 256 }
         ensures ran { IfOk result (λ ran. ran ≡ is_enabled self.old.hardware.config program.now (state_of self.old.hardware) event.now) }
-        ensures state { OnOk result (state_of self.new.hardware ≡ after self.old.hardware.config program.now (state_of self.old.hardware) event.now) }
+        ensures state { OnOk result (state_of self.new.hardware
+            ≡ after self.old.hardware.config program.now (state_of self.old.hardware) event.now) }
         ensures err { OnErr result (state_of self.new.hardware ≡ state_of self.old.hardware) }
         ensures config { self.new.hardware.config ≡ self.old.hardware.config }
         ensures victim { self.new.victim ≡ self.old.victim }
@@ -69,7 +70,7 @@ impl<F: Fn(&[WayView]) -> u8 + Copy + Send> System<F> {
     }
 
     /// The least enabled event of the greedy order, each Issue being of its cache's next operation in the trace, with a
-    /// way that the stored policy answers: Issue by cache; Engine, first with class 0, then responses, memory and
+    /// way that the stored policy answers: Issue by cache; Engine, first without a class, then responses, memory and
     /// requests, each by source; Command by cache; Fill by receiver and sender; Memory. None exactly where none of them
     /// is enabled.
     pub fn least_enabled(&self, program: &[Instr], trace: &Trace) -> Option<Event>
@@ -77,7 +78,8 @@ impl<F: Fn(&[WayView]) -> u8 + Copy + Send> System<F> {
         requires config { trace.now.config ≡ self.now.hardware.config }
         requires policy { IsPolicy F.Fn self.now.victim.pick }
         ensures { MatchOption result (IsEnd self.now.hardware.config program.now (state_of self.now.hardware) trace.now.lines)
-            (IsLeast (FnReturnsAt F.Fn self.now.victim.pick) self.now.hardware.config program.now (state_of self.now.hardware) trace.now.lines) }
+            (IsLeast (FnReturnsAt F.Fn self.now.victim.pick) self.now.hardware.config program.now
+            (state_of self.now.hardware) trace.now.lines) }
     {
         least_of(&self.hardware, &self.victim, program, trace)
     }

@@ -28,22 +28,23 @@ no-halt (Some (Waits c)) r h e = cc
 no-halt (Some (Halts x)) r h e = h
 
 module _ (k : Shape) (image : Parts) (profile : InProfile k) (made : IsMade image) (accepted : Accepted image) where
-  module _ (n : State) (told : Told) (follows : Follows image k n told) where
-    met-here : IsMet k image.instrs n told
-    met-here = is-met k image profile made accepted n told follows
+  module _ (s : State) (told : Told) (follows : Follows image k s told) where
+    met-here : IsMet k image.instrs s told
+    met-here = is-met k image profile made accepted s told follows
 
-    never : NeverHalts k image.instrs n
+    never : NeverHalts k image.instrs s
     never choice message reason e =
-        no-halt (stop_of k n.engine image.instrs choice message) reason (runs-here k image profile made accepted n told follows choice message) e
+        no-halt (stop_of k s.engine image.instrs choice message) reason
+        (runs-here k image profile made accepted s told follows choice message) e
 
-    sound-here : IsSoundState k image.instrs n
+    sound-here : IsSoundState k image.instrs s
     sound-here = record {
-      coherent = coherent k n told follows.tied;
+      coherent = coherent k s told follows.tied;
       halts_never = never;
-      runs_on = engine-runs k image.instrs n never profile;
-      none_foreign = takes k n told follows.tied;
-      quiet_rests = quiet-rested k image.instrs n told follows.tied met-here;
-      stuck_rests = stuck-rested k image.instrs n never told made.forms follows.tied met-here;
+      runs_on = engine-runs k image.instrs s never profile;
+      none_foreign = takes k s told follows.tied;
+      quiet_rests = quiet-rested k image.instrs s told follows.tied met-here;
+      stuck_rests = stuck-rested k image.instrs s never told made.forms follows.tied met-here;
     }
 
   pub sound : (es : List Event) → AreLawful es → IsSoundState k image.instrs (run k image.instrs es)

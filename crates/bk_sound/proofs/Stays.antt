@@ -12,6 +12,7 @@ lawful-before : (before after : List Event) → AreLawful (before ++ after) → 
 lawful-before [] after h = tt
 lawful-before (e ∷ before) after h = (h.0, lawful-before before after h.1)
 
-pub stays-coherent : (k : Shape) (program : List Form) (es : List Event) → IsSound program → InProfile k → AreLawful es → StaysCoherent k program es
+pub stays-coherent : (k : Shape) (program : List Form) (es : List Event) → IsSound program → InProfile k → AreLawful es
+    → StaysCoherent k program es
 stays-coherent k program es sound profile lawful before after e =
     (sound k before profile (lawful-before before after (subst AreLawful e lawful))).coherent

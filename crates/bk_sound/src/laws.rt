@@ -2,7 +2,7 @@
 
 ghost use Rattle.std.specs.Prelude.{List};
 ghost use Rattle.bk_base.specs.Places.{Shape, InProfile};
-ghost use Rattle.bk_machine.specs.World.{empty};
+ghost use Rattle.bk_machine.specs.World.{empty_world};
 ghost use Rattle.bk_machine.specs.Runs.{Event, Listed, run};
 ghost use Rattle.bk_machine.specs.Claims.{Sole, Latest, PendingAgrees};
 
@@ -12,7 +12,10 @@ ghost use Rattle.bk_machine.specs.Claims.{Sole, Latest, PendingAgrees};
 /// the one history of completions, or 0; and a way group is pending exactly while a request of it that was taken isn't settled,
 /// of which there is one at most.
 pub fn table_machine()
-    ensures sole { (k : Shape) (events : List Event) → InProfile k → Listed k events (empty k.ways) → Sole (run k events (empty k.ways)) }
-    ensures latest { (k : Shape) (events : List Event) → InProfile k → Listed k events (empty k.ways) → Latest (run k events (empty k.ways)) }
-    ensures pending { (k : Shape) (events : List Event) → InProfile k → Listed k events (empty k.ways) → PendingAgrees (run k events (empty k.ways)) }
+    ensures sole { (k : Shape) (events : List Event) → InProfile k → Listed k events (empty_world k.ways)
+        → Sole (run k events (empty_world k.ways)) }
+    ensures latest { (k : Shape) (events : List Event) → InProfile k → Listed k events (empty_world k.ways)
+        → Latest (run k events (empty_world k.ways)) }
+    ensures pending { (k : Shape) (events : List Event) → InProfile k → Listed k events (empty_world k.ways)
+        → PendingAgrees (run k events (empty_world k.ways)) }
 {}

@@ -10,7 +10,7 @@ use Rattle.bk_base.specs.declared.coh.Coh.{Coh}
 use Rattle.bk_msg.specs.declared.row.Row.{Row}
 use Rattle.bk_msg.specs.declared.row.Row.TheVariants.{Fill}
 use Rattle.bk_msg.specs.Within.{IsWithin}
-use Rattle.bk_system.specs.Kept.{fill_place, fills_of}
+use Rattle.bk_system.specs.Numbering.{fill_place, fills_of}
 use Rattle.bk_system.specs.Events.{fills_with}
 use Rattle.bk_system.proofs.Queues.{put_at, put_other}
 
@@ -34,47 +34,59 @@ other-place : (a b to from : ℕ) → b < 8 → from < 8 → ((a ≡ to) × (b �
 other-place a b to from l m n e = n (omega arith, omega arith)
 
 -- the channels to the receiver
-to-receiver : (q : ℕ → List Row) (to from : ℕ) (ms : List Row) (b : ℕ) → to < 8 → from < 8 → fills_of (put q (fill_place to from) ms) to b ≡ put (fills_of q to) from ms b
+to-receiver : (q : ℕ → List Row) (to from : ℕ) (ms : List Row) (b : ℕ) → to < 8 → from < 8
+    → fills_of (put q (fill_place to from) ms) to b ≡ put (fills_of q to) from ms b
 unfolding fills_of
 to-receiver q to from ms b l m =
     elim (cases_eq b from) [
       | inl same ↦ subst (λ (j : ℕ). fills_of (put q (fill_place to from) ms) to j ≡ put (fills_of q to) from ms j) (sym same)
-          (fills-at (put q (fill_place to from) ms) to from l m ∙ put_at q (fill_place to from) ms ∙ sym (put_at (fills_of q to) from ms))
+          (fills-at (put q (fill_place to from) ms) to from l m ∙ put_at q (fill_place to from) ms
+          ∙ sym (put_at (fills_of q to) from ms))
       | inr differ ↦ if-same (nat_lt to 8 && nat_lt b 8) (put q (fill_place to from) ms (fill_place to b)) (q (fill_place to b))
           (λ e. put_other q (fill_place to from) ms (fill_place to b) (other-place to b to from (in-range to b e) m (λ h. differ h.1)))
           ∙ sym (put_other (fills_of q to) from ms b differ)
     ]
 
 -- the channels to another receiver
-to-other : (q : ℕ → List Row) (to from : ℕ) (ms : List Row) (a b : ℕ) → from < 8 → a ≢ to → fills_of (put q (fill_place to from) ms) a b ≡ fills_of q a b
+to-other : (q : ℕ → List Row) (to from : ℕ) (ms : List Row) (a b : ℕ) → from < 8 → a ≢ to
+    → fills_of (put q (fill_place to from) ms) a b ≡ fills_of q a b
 unfolding fills_of
 to-other q to from ms a b m n =
     if-same (nat_lt a 8 && nat_lt b 8) (put q (fill_place to from) ms (fill_place a b)) (q (fill_place a b))
     (λ e. put_other q (fill_place to from) ms (fill_place a b) (other-place a b to from (in-range a b e) m (λ h. n h.0)))
 
 -- one channel changed
-fills-one : (q : ℕ → List Row) (to from : ℕ) (ms : List Row) (a b : ℕ) → to < 8 → from < 8 → fills_of (put q (fill_place to from) ms) a b ≡ put (fills_of q) to (put (fills_of q to) from ms) a b
+fills-one : (q : ℕ → List Row) (to from : ℕ) (ms : List Row) (a b : ℕ) → to < 8 → from < 8
+    → fills_of (put q (fill_place to from) ms) a b ≡ put (fills_of q) to (put (fills_of q to) from ms) a b
 fills-one q to from ms a b l m =
     elim (cases_eq a to) [
-      | inl same ↦ subst (λ (j : ℕ). fills_of (put q (fill_place to from) ms) j b ≡ put (fills_of q) to (put (fills_of q to) from ms) j b) (sym same)
-          (to-receiver q to from ms b l m ∙ ap (λ (f : ℕ → List Row). f b) (sym (put_at (fills_of q) to (put (fills_of q to) from ms))))
-      | inr differ ↦ to-other q to from ms a b m differ ∙ ap (λ (f : ℕ → List Row). f b) (sym (put_other (fills_of q) to (put (fills_of q to) from ms) a differ))
+      | inl same ↦ subst (λ (j : ℕ). fills_of (put q (fill_place to from) ms) j b
+          ≡ put (fills_of q) to (put (fills_of q to) from ms) j b) (sym same)
+          (to-receiver q to from ms b l m
+          ∙ ap (λ (f : ℕ → List Row). f b) (sym (put_at (fills_of q) to (put (fills_of q to) from ms))))
+      | inr differ ↦ to-other q to from ms a b m differ
+          ∙ ap (λ (f : ℕ → List Row). f b) (sym (put_other (fills_of q) to (put (fills_of q to) from ms) a differ))
     ]
 
-pub fills-put : (q : ℕ → List Row) (to from : ℕ) (ms : List Row) → to < 8 → from < 8 → fills_of (put q (fill_place to from) ms) ≡ put (fills_of q) to (put (fills_of q to) from ms)
+pub fills-put : (q : ℕ → List Row) (to from : ℕ) (ms : List Row) → to < 8 → from < 8
+    → fills_of (put q (fill_place to from) ms) ≡ put (fills_of q) to (put (fills_of q to) from ms)
 fills-put q to from ms l m = fun_ext (λ a. fun_ext (λ b. fills-one q to from ms a b l m))
 
 -- who receives a fill is a cache
-pub fill-receiver : (k : Shape) (m : Row) (from to way : ℕ) (state : Coh) (addr : ℕ) (words : List ℕ) → m ≡ Fill from to way state addr words → IsWithin k m → to < k.caches
+pub fill-receiver : (k : Shape) (m : Row) (from to way : ℕ) (state : Coh) (addr : ℕ) (words : List ℕ)
+    → m ≡ Fill from to way state addr words → IsWithin k m → to < k.caches
 fill-receiver k m from to way state addr words e h = (subst (IsWithin k) e h).1.cache
 
 -- a fill that was sent
-pub fill-sent : (q new : ℕ → List Row) (c : ℕ) (sent : Option Row) (m : Row) (from to way : ℕ) (state : Coh) (addr : ℕ) (words : List ℕ) → sent ≡ Some m → m ≡ Fill from to way state addr words → c < 8 → to < 8
+pub fill-sent : (q new : ℕ → List Row) (c : ℕ) (sent : Option Row) (m : Row) (from to way : ℕ) (state : Coh) (addr : ℕ)
+    (words : List ℕ)
+    → sent ≡ Some m → m ≡ Fill from to way state addr words → c < 8 → to < 8
     → new ≡ put q (fill_place to c) (q (fill_place to c) ++ m ∷ []) → fills_of new ≡ fills_with c sent (fills_of q)
 fill-sent q new c sent m from to way state addr words es em l r e =
     ap fills_of e ∙ fills-put q to c (q (fill_place to c) ++ m ∷ []) r l
     ∙ ap (λ (ms : List Row). put (fills_of q) to (put (fills_of q to) c (ms ++ m ∷ []))) (sym (fills-at q to c r l))
-    ∙ subst (λ (x : Row). put (fills_of q) to (put (fills_of q to) c (fills_of q to c ++ x ∷ [])) ≡ fills_with c (Some x) (fills_of q)) (sym em) refl
+    ∙ subst (λ (message : Row). put (fills_of q) to (put (fills_of q to) c (fills_of q to c ++ message ∷ []))
+    ≡ fills_with c (Some message) (fills_of q)) (sym em) refl
     ∙ ap (λ (o : Option Row). fills_with c o (fills_of q)) (sym es)
 
 -- where all channels are empty

@@ -6,7 +6,7 @@ use Rattle.std.proofs.lemmas.Bool.Decides.{nat_tests}
 use mathlib.Core.Path.{fun_ext}
 use Rattle.std.specs.Option.{option_copied, option_to_list, MatchOption, IfSome}
 use Rattle.std.specs.Prelude.{⊤, All}
-use Rattle.bk_engine.specs.Outward.{IsOutward}
+use Rattle.bk_engine.specs.Step.{IsOutward}
 use Rattle.std.proofs.Common.{Result, Ok, Err}
 use Rattle.std.specs.Result.{OnOk}
 use Rattle.std.specs.Slice.{IsItemAt}
@@ -25,30 +25,33 @@ use Rattle.bk_system.specs.Channels.{queue, room}
 
 -- f of the value at a place, or a default past the end
 abbrev pub at : {X Y : Type 0} → (X → Y) → Y → List X → ℕ → Y
-at f d xs k = option_map_or f (slice_get xs k) d
+at f d xs number = option_map_or f (slice_get xs number) d
 
-suc-zero : (k : ℕ) → eqb (suc k) 0 ≡ false
-suc-zero k = grind (arith, nat_tests)
+suc-zero : (number : ℕ) → eqb (suc number) 0 ≡ false
+suc-zero number = grind (arith, nat_tests)
 
 zero-suc : (i : ℕ) → eqb 0 (suc i) ≡ false
 zero-suc i = grind (arith, nat_tests)
 
-suc-suc : (k i : ℕ) → eqb (suc k) (suc i) ≡ eqb k i
-suc-suc k i = grind (arith, nat_tests)
+suc-suc : (number i : ℕ) → eqb (suc number) (suc i) ≡ eqb number i
+suc-suc number i = grind (arith, nat_tests)
 
-pub at-set : {X Y : Type 0} (f : X → Y) (d : Y) (xs : List X) (i : ℕ) (x : X) (k : ℕ) → i < length xs → at f d (set xs i x) k ≡ cond (eqb k i) (f x) (at f d xs k)
-at-set f d [] i x k l = absurd (omega arith)
+pub at-set : {X Y : Type 0} (f : X → Y) (d : Y) (xs : List X) (i : ℕ) (x : X) (number : ℕ) → i < length xs
+    → at f d (set xs i x) number ≡ cond (eqb number i) (f x) (at f d xs number)
+at-set f d [] i x number l = absurd (omega arith)
 at-set f d (y ∷ ys) zero x zero l = refl
-at-set f d (y ∷ ys) zero x (suc k) l = rw (suc-zero k) refl
+at-set f d (y ∷ ys) zero x (suc number) l = rw (suc-zero number) refl
 at-set f d (y ∷ ys) (suc i) x zero l = rw (zero-suc i) refl
-at-set f d (y ∷ ys) (suc i) x (suc k) l = rw (suc-suc k i) (at-set f d ys i x k (omega arith))
+at-set f d (y ∷ ys) (suc i) x (suc number) l = rw (suc-suc number i) (at-set f d ys i x number (omega arith))
 
-pub table-set : {X Y : Type 0} (f : X → Y) (d : Y) (xs : List X) (i : ℕ) (x : X) → i < length xs → at f d (set xs i x) ≡ put (at f d xs) i (f x)
+pub table-set : {X Y : Type 0} (f : X → Y) (d : Y) (xs : List X) (i : ℕ) (x : X) → i < length xs
+    → at f d (set xs i x) ≡ put (at f d xs) i (f x)
 unfolding put
 table-set f d xs i x l = fun_ext (λ k. at-set f d xs i x k l)
 
 -- the value itself
-pub at-item : {X Y : Type 0} (f : X → Y) (d : Y) (xs : List X) (i : ℕ) (x : X) → i < length xs → x ≡ get_or xs i x → at f d xs i ≡ f x
+pub at-item : {X Y : Type 0} (f : X → Y) (d : Y) (xs : List X) (i : ℕ) (x : X) → i < length xs → x ≡ get_or xs i x
+    → at f d xs i ≡ f x
 at-item f d [] i x l e = absurd (omega arith)
 at-item f d (y ∷ ys) zero x l e = ap f (sym e)
 at-item f d (y ∷ ys) (suc i) x l e = at-item f d ys i x (omega arith) e
@@ -66,37 +69,41 @@ item-first {X = X} [] (Some b) h = absurd (let l : 0 < length {A = X} [] = h.3.0
 item-first (x ∷ xs) (Some b) h = ap Some h.1
 
 -- what was taken off the front of a list
-pub front-first : {X : Type 0} (o : Option X) (xs ys : List X) (n : ℕ) (P Q : Type 0) → xs ≡ option_to_list o ++ ys → n ≡ length xs → MatchOption o ((n ≡ 0) × P) (λ _. Q) → o ≡ slice_get xs 0
+pub front-first : {X : Type 0} (o : Option X) (xs ys : List X) (n : ℕ) (P Q : Type 0) → xs ≡ option_to_list o ++ ys
+    → n ≡ length xs
+    → MatchOption o ((n ≡ 0) × P) (λ _. Q) → o ≡ slice_get xs 0
 front-first None [] ys n P Q e l h = refl
 front-first None (x ∷ xs) ys n P Q e l h = absurd (let z : n ≡ 0 = h.0 in omega arith)
 front-first (Some x) xs ys n P Q e l h = rw e refl
 
 -- the same value again
-pub put-same : {X : Type 0} (f : ℕ → X) (k : ℕ) (x : X) → x ≡ f k → put f k x ≡ f
+pub put-same : {X : Type 0} (f : ℕ → X) (number : ℕ) (x : X) → x ≡ f number → put f number x ≡ f
 unfolding put
-put-same f k x e = fun_ext (λ j. same-at f k x j e)
+put-same f number x e = fun_ext (λ j. same-at f number x j e)
   where
-    same-at : {X : Type 0} (f : ℕ → X) (k : ℕ) (x : X) (j : ℕ) → x ≡ f k → cond (eqb j k) x (f j) ≡ f j
-    same-at f k x j e = grind (arith, nat_tests)
+    same-at : {X : Type 0} (f : ℕ → X) (number : ℕ) (x : X) (j : ℕ) → x ≡ f number → cond (eqb j number) x (f j) ≡ f j
+    same-at f number x j e = grind (arith, nat_tests)
 
 -- the value that was put
-pub put_at : {X : Type 0} (f : ℕ → X) (k : ℕ) (x : X) → put f k x k ≡ x
+pub put_at : {X : Type 0} (f : ℕ → X) (number : ℕ) (x : X) → put f number x number ≡ x
 unfolding put
 put_at f k x = grind (arith, nat_tests)
 
 -- the other values
-pub put_other : {X : Type 0} (f : ℕ → X) (k : ℕ) (x : X) (j : ℕ) → j ≢ k → put f k x j ≡ f j
+pub put_other : {X : Type 0} (f : ℕ → X) (number : ℕ) (x : X) (j : ℕ) → j ≢ number → put f number x j ≡ f j
 unfolding put
 put_other f k x j n = grind (arith, nat_tests)
 
-pub queue-set : (a b : Channels) (c : ℕ) (q : Queue) → b.queues.items ≡ set a.queues.items c q → c < vec_len a.queues → queue b ≡ put (queue a) c q.items
+pub queue-set : (a b : Channels) (c : ℕ) (q : Queue) → b.queues.items ≡ set a.queues.items c q → c < vec_len a.queues
+    → queue b ≡ put (queue a) c q.items
 unfolding queue
 queue-set a b c q e l =
     let lt : c < length a.queues.items = omega (arith, a.queues.ok.0) in
     ap (λ (qs : List Queue). at (λ (x : Queue). x.items) [] qs) e ∙ table-set (λ (x : Queue). x.items) [] a.queues.items c q lt
 
 -- the channel whose queue was changed
-pub queue-at : (a b : Channels) (c : ℕ) (q : Queue) → b.queues.items ≡ set a.queues.items c q → c < vec_len a.queues → queue b c ≡ q.items
+pub queue-at : (a b : Channels) (c : ℕ) (q : Queue) → b.queues.items ≡ set a.queues.items c q → c < vec_len a.queues
+    → queue b c ≡ q.items
 queue-at a b c q e l = ap (λ (f : ℕ → List Row). f c) (queue-set a b c q e l) ∙ put_at (queue a) c q.items
 
 pub queue-item : (a : Channels) (c : ℕ) (q : Queue) → c < vec_len a.queues → q ≡ get_or a.queues.items c q → queue a c ≡ q.items
@@ -111,34 +118,41 @@ queue-past a c l =
     let le : length a.queues.items ≤ c = omega (arith, a.queues.ok.0) in
     at-past (λ (x : Queue). x.items) [] a.queues.items c le
 
-pub queue-empty : (a : Channels) → ((k : ℕ) → at {Y = List Row} (λ q. q.items) [] a.queues.items k ≡ []) → queue a ≡ λ c. []
+pub queue-empty : (a : Channels) → ((number : ℕ) → at {Y = List Row} (λ q. q.items) [] a.queues.items number ≡ [])
+    → queue a ≡ λ c. []
 unfolding queue
 queue-empty a h = fun_ext h
 
 -- one more value that is the default
-pub at-more : {X Y : Type 0} (f : X → Y) (d : Y) (xs : List X) (x : X) → f x ≡ d → ((k : ℕ) → at f d xs k ≡ d) → (k : ℕ) → at f d (xs ++ x ∷ []) k ≡ d
+pub at-more : {X Y : Type 0} (f : X → Y) (d : Y) (xs : List X) (x : X) → f x ≡ d → ((number : ℕ) → at f d xs number ≡ d)
+    → (number : ℕ)
+    → at f d (xs ++ x ∷ []) number ≡ d
 at-more f d [] x e h zero = e
-at-more f d [] x e h (suc k) = refl
+at-more f d [] x e h (suc number) = refl
 at-more f d (y ∷ ys) x e h zero = h zero
-at-more f d (y ∷ ys) x e h (suc k) = at-more f d ys x e (λ j. h (suc j)) k
+at-more f d (y ∷ ys) x e h (suc number) = at-more f d ys x e (λ j. h (suc j)) number
 
 pub is_nil-length : {X : Type 0} (xs : List X) (n : ℕ) → n ≡ length xs → is_nil xs ≡ (n == 0)
 is_nil-length [] n e = rw e refl
 is_nil-length (x ∷ xs) n e = grind (arith, nat_tests)
 
 -- whether a channel that holds the items of a queue is empty
-pub queue-nil : (a : Channels) (c : ℕ) (q : Queue) (b : Bool) → c < vec_len a.queues → q ≡ get_or a.queues.items c q → b ≡ (deque_len q == 0) → is_nil (queue a c) ≡ b
+pub queue-nil : (a : Channels) (c : ℕ) (q : Queue) (b : Bool) → c < vec_len a.queues → q ≡ get_or a.queues.items c q
+    → b ≡ (deque_len q == 0) → is_nil (queue a c) ≡ b
 queue-nil a c q b l e h = rw (queue-item a c q l e) (is_nil-length q.items q.len q.ok.0 ∙ sym h)
 
 -- ROOM
 
-pub room-set : (a b : Channels) (c : ℕ) (q : Queue) → b.queues.items ≡ set a.queues.items c q → c < vec_len a.queues → room b ≡ put (room a) c (deque_capacity q - deque_len q)
+pub room-set : (a b : Channels) (c : ℕ) (q : Queue) → b.queues.items ≡ set a.queues.items c q → c < vec_len a.queues
+    → room b ≡ put (room a) c (deque_capacity q - deque_len q)
 unfolding room
 room-set a b c q e l =
     let lt : c < length a.queues.items = omega (arith, a.queues.ok.0) in
-    ap (λ (qs : List Queue). at (λ (x : Queue). deque_capacity x - deque_len x) 0 qs) e ∙ table-set (λ (x : Queue). deque_capacity x - deque_len x) 0 a.queues.items c q lt
+    ap (λ (qs : List Queue). at (λ (x : Queue). deque_capacity x - deque_len x) 0 qs) e
+    ∙ table-set (λ (x : Queue). deque_capacity x - deque_len x) 0 a.queues.items c q lt
 
-pub room-item : (a : Channels) (c : ℕ) (q : Queue) → c < vec_len a.queues → q ≡ get_or a.queues.items c q → room a c ≡ deque_capacity q - deque_len q
+pub room-item : (a : Channels) (c : ℕ) (q : Queue) → c < vec_len a.queues → q ≡ get_or a.queues.items c q
+    → room a c ≡ deque_capacity q - deque_len q
 unfolding room
 room-item a c q l e =
     let lt : c < length a.queues.items = omega (arith, a.queues.ok.0) in
@@ -157,31 +171,38 @@ room-there a c h =
     omega (arith, a.queues.ok.0)
 
 -- one number changed in a table of numbers by at most n
-put-le : (f : ℕ → ℕ) (k v n : ℕ) → f k ≤ v + n → (j : ℕ) → f j ≤ put f k v j + n
+put-le : (f : ℕ → ℕ) (number v n : ℕ) → f number ≤ v + n → (j : ℕ) → f j ≤ put f number v j + n
 unfolding put
-put-le f k v n l j = near (eqb j k) (λ e. ap f (same j k e))
+put-le f number v n l j = near (eqb j number) (λ e. ap f (same j number e))
   where
-    same : (j k : ℕ) → eqb j k ≡ true → j ≡ k
-    same j k e = grind (arith, nat_tests)
+    same : (j number : ℕ) → eqb j number ≡ true → j ≡ number
+    same j number e = grind (arith, nat_tests)
 
-    near : (b : Bool) → (b ≡ true → f j ≡ f k) → f j ≤ cond b v (f j) + n
-    near true e = let is : f j ≡ f k = e refl in omega arith
+    near : (b : Bool) → (b ≡ true → f j ≡ f number) → f j ≤ cond b v (f j) + n
+    near true e = let is : f j ≡ f number = e refl in omega arith
     near false e = omega arith
 
 -- the room of a channel whose queue was changed
-pub room-at : (a b : Channels) (c : ℕ) (q : Queue) → b.queues.items ≡ set a.queues.items c q → c < vec_len a.queues → room b c ≡ deque_capacity q - deque_len q
+pub room-at : (a b : Channels) (c : ℕ) (q : Queue) → b.queues.items ≡ set a.queues.items c q → c < vec_len a.queues
+    → room b c ≡ deque_capacity q - deque_len q
 room-at a b c q e l = ap (λ (f : ℕ → ℕ). f c) (room-set a b c q e l) ∙ put_at (room a) c (deque_capacity q - deque_len q)
 
 -- a channel whose queue has lost at most n of its room
-pub room-changed : (a b : Channels) (c : ℕ) (q : Queue) (n : ℕ) → b.queues.items ≡ set a.queues.items c q → c < vec_len a.queues → room a c ≤ (deque_capacity q - deque_len q) + n → (j : ℕ) → room a j ≤ room b j + n
-room-changed a b c q n e l le j = subst (λ (f : ℕ → ℕ). room a j ≤ f j + n) (sym (room-set a b c q e l)) (put-le (room a) c (deque_capacity q - deque_len q) n le j)
+pub room-changed : (a b : Channels) (c : ℕ) (q : Queue) (n : ℕ) → b.queues.items ≡ set a.queues.items c q → c < vec_len a.queues
+    → room a c ≤ (deque_capacity q - deque_len q) + n → (j : ℕ) → room a j ≤ room b j + n
+room-changed a b c q n e l le j =
+    subst (λ (f : ℕ → ℕ). room a j ≤ f j + n) (sym (room-set a b c q e l))
+    (put-le (room a) c (deque_capacity q - deque_len q) n le j)
 
 -- a channel whose queue has lost none of its room
-pub room-kept : (a b : Channels) (c : ℕ) (q : Queue) → b.queues.items ≡ set a.queues.items c q → c < vec_len a.queues → room a c ≤ deque_capacity q - deque_len q → (j : ℕ) → room a j ≤ room b j
+pub room-kept : (a b : Channels) (c : ℕ) (q : Queue) → b.queues.items ≡ set a.queues.items c q → c < vec_len a.queues
+    → room a c ≤ deque_capacity q - deque_len q → (j : ℕ) → room a j ≤ room b j
 room-kept a b c q e l le j = let same : room a j ≤ room b j + 0 = room-changed a b c q 0 e l (omega arith) j in omega arith
 
 -- a channel whose queue was given room
-pub room-made : {E : Type 0} (a b : Channels) (c : ℕ) (q : Queue) (more : ℕ) (r : Result ⊤ E) → b.queues.items ≡ set a.queues.items c q → c < vec_len a.queues → OnOk r (deque_len q + more ≤ deque_capacity q) → OnOk r (more ≤ room b c)
+pub room-made : {E : Type 0} (a b : Channels) (c : ℕ) (q : Queue) (more : ℕ) (r : Result ⊤ E)
+    → b.queues.items ≡ set a.queues.items c q
+    → c < vec_len a.queues → OnOk r (deque_len q + more ≤ deque_capacity q) → OnOk r (more ≤ room b c)
 room-made a b c q more (Ok _) e l h = let is : room b c ≡ deque_capacity q - deque_len q = room-at a b c q e l in omega arith
 room-made a b c q more (Err _) e l h = h
 
@@ -191,11 +212,15 @@ cond-within : (k : Shape) (b : Bool) (xs ys : List Row) → EachWithin k xs → 
 cond-within k true xs ys p q = p
 cond-within k false xs ys p q = q
 
-pub within-set : (k : Shape) (xs : List Queue) (c : ℕ) (q : Queue) → c < length xs → AreWithin k (queues_of xs) → EachWithin k q.items → AreWithin k (queues_of (set xs c q))
+pub within-set : (k : Shape) (xs : List Queue) (c : ℕ) (q : Queue) → c < length xs → AreWithin k (queues_of xs)
+    → EachWithin k q.items
+    → AreWithin k (queues_of (set xs c q))
 within-set k xs c q l h p j =
     subst (EachWithin k) (sym (at-set (λ (x : Queue). x.items) [] xs c q j l)) (cond-within k (eqb j c) q.items (queues_of xs j) p (h j))
 
-pub within-item : (k : Shape) (xs : List Queue) (c : ℕ) (q : Queue) → c < length xs → q ≡ get_or xs c q → AreWithin k (queues_of xs) → EachWithin k q.items
+pub within-item : (k : Shape) (xs : List Queue) (c : ℕ) (q : Queue) → c < length xs → q ≡ get_or xs c q
+    → AreWithin k (queues_of xs)
+    → EachWithin k q.items
 within-item k xs c q l e h = subst (EachWithin k) (at-item (λ (x : Queue). x.items) [] xs c q l e) (h c)
 
 pub within-append : (k : Shape) (xs : List Row) (m : Row) → EachWithin k xs → IsWithin k m → EachWithin k (xs ++ m ∷ [])
@@ -206,11 +231,13 @@ pub within-rest : (k : Shape) (xs : List Row) → EachWithin k xs → EachWithin
 within-rest k [] h = tt
 within-rest k (x ∷ xs) h = h.1
 
-pub within-first : (k : Shape) (xs : List Row) (r : Option (Bor Row)) → IsItemAt xs 0 r → EachWithin k xs → IfSome r (λ b. IsWithin k b.now)
+pub within-first : (k : Shape) (xs : List Row) (r : Option (Bor Row)) → IsItemAt xs 0 r → EachWithin k xs
+    → IfSome r (λ b. IsWithin k b.now)
 within-first k xs None h p = tt
 within-first k [] (Some b) h p = absurd (let l : 0 < length {A = Row} [] = h.3.0 in omega arith)
 within-first k (x ∷ xs) (Some b) h p = subst (IsWithin k) (sym h.1) p.0
 
 -- a message of those that the engine sends
-pub outward-at : (k : Shape) (xs : List Row) (i : ℕ) (m : Row) → All (IsOutward k) xs → i < length xs → m ≡ get_or xs i m → IsWithin k m
+pub outward-at : (k : Shape) (xs : List Row) (i : ℕ) (m : Row) → All (IsOutward k) xs → i < length xs → m ≡ get_or xs i m
+    → IsWithin k m
 outward-at k xs i m h l e = subst (IsWithin k) (sym e) (h i m l).within

@@ -11,13 +11,15 @@ use Rattle.bk_msg.specs.declared.row.Network.TheVariants as networks
 use Rattle.bk_msg.specs.declared.row.Network.{Network}
 use Rattle.bk_msg.specs.Networks.{network_of, address_of, receiver_of}
 use Rattle.bk_lce.specs.CacheTable as table
-use Rattle.bk_lce.specs.CacheTable.{Taken}
+use Rattle.bk_lce.specs.CacheTable.{Transition}
 use Rattle.bk_engine.specs.declared.parts.Choice.{Choice}
+use Rattle.bk_engine.specs.declared.parts.TheConstants.{CLASS_NONE, CLASS_RESPONSE, CLASS_MEMORY, CLASS_REQUEST}
+use Rattle.bk_engine.specs.declared.heads.TheConstants.{HEAD_REQUEST, HEAD_COH_ACK}
 use Rattle.bk_engine.specs.Heads.{head_number}
 use Rattle.bk_engine.specs.Step.{Outcome, runs, runs_to}
 use Rattle.bk_system.specs.declared.event.Event.{Event}
 use Rattle.bk_system.specs.declared.event.Event.TheVariants.{Issue, Command, Fill, Memory, Engine}
-use Rattle.bk_system.specs.declared.event.Group.{Group}
+use Rattle.bk_system.specs.declared.event.Origin.{Origin}
 use Rattle.bk_system.specs.Memory.{memory_after, answer_to}
 use Rattle.bk_system.specs.State.{State}
 
@@ -69,9 +71,10 @@ responses_with c (Some m) channel = added_if (is_response (network_of m)) c m ch
 -- a fill goes to the channel of its receiver from cache c
 abbrev pub fills_with : ℕ → Option Row → (ℕ → ℕ → List Row) → ℕ → ℕ → List Row
 fills_with c None channel = channel
-fills_with c (Some m) channel = if is_fill (network_of m) then put channel (receiver_of m) (put (channel (receiver_of m)) c (channel (receiver_of m) c ++ m ∷ [])) else channel
+fills_with c (Some m) channel = if is_fill (network_of m)
+    then put channel (receiver_of m) (put (channel (receiver_of m)) c (channel (receiver_of m) c ++ m ∷ [])) else channel
 
-abbrev pub with_taken : State → ℕ → Taken → Happening
+abbrev pub with_taken : State → ℕ → Transition → Happening
 with_taken s c taken = record {
   state = record s {
     caches = put s.caches c taken.state;
@@ -83,31 +86,31 @@ with_taken s c taken = record {
   sent = option_to_list taken.sent;
 }
 
-abbrev pub takes : State → ℕ → Option Taken → Option Happening
-takes s c None = None
-takes s c (Some taken) = Some (with_taken s c taken)
+abbrev pub cache_row : State → ℕ → Option Transition → Option Happening
+cache_row s c None = None
+cache_row s c (Some taken) = Some (with_taken s c taken)
 
 -- a cache that is idle is given an operation; the cache and the way are of the configuration
-abbrev pub issue_taken : Shape → State → ℕ → Op → ℕ → Option Taken
+abbrev pub issue_taken : Shape → State → ℕ → Op → ℕ → Option Transition
 issue_taken k s c op way = if nat_lt c k.caches && nat_lt way k.ways then table.issue k (s.caches c) c op way else None
 
 -- the head of a cache's command channel
-abbrev pub command_of : Shape → State → ℕ → Option Row → Option Taken
+abbrev pub command_of : Shape → State → ℕ → Option Row → Option Transition
 command_of k s c None = None
 command_of k s c (Some m) = table.command k (s.caches c) c m
 
-abbrev pub command_taken : Shape → State → ℕ → Option Taken
+abbrev pub command_taken : Shape → State → ℕ → Option Transition
 command_taken k s c = if nat_lt c k.caches then command_of k s c (first (s.command c)) else None
 
 abbrev pub without_command : State → ℕ → State
 without_command s c = record s { command = put s.command c (drop 1 (s.command c)) }
 
 -- the head of the fill channel to a cache from another
-abbrev pub fill_of : Shape → State → ℕ → Option Row → Option Taken
+abbrev pub fill_of : Shape → State → ℕ → Option Row → Option Transition
 fill_of k s to None = None
 fill_of k s to (Some m) = table.fill k (s.caches to) to m
 
-abbrev pub fill_taken : Shape → State → ℕ → ℕ → Option Taken
+abbrev pub fill_taken : Shape → State → ℕ → ℕ → Option Transition
 fill_taken k s to from = if nat_lt to k.caches && nat_lt from k.caches then fill_of k s to (first (s.fill to from)) else None
 
 abbrev pub without_fill : State → ℕ → ℕ → State
@@ -115,9 +118,9 @@ without_fill s to from = record s { fill = put s.fill to (put (s.fill to) from (
 
 -- MEMORY: the head of its channel is done
 
-abbrev pub accessed : State → Option Row → Option Happening
-accessed s None = None
-accessed s (Some m) = Some (record {
+abbrev pub access_row : State → Option Row → Option Happening
+access_row s None = None
+access_row s (Some m) = Some (record {
   state = record s { memout = drop 1 s.memout; memory = memory_after s.memory m; memin = s.memin ++ option_to_list (answer_to s.memory m) };
   sent = option_to_list (answer_to s.memory m);
 })
@@ -125,23 +128,23 @@ accessed s (Some m) = Some (record {
 -- ENGINE: one instruction, where it has no reason not to run
 
 -- the head that a choice offers to `wfq`, of the responses, the memory's answers and the requests
-abbrev pub offered_of : (ℕ → List Row) → List Row → (ℕ → List Row) → Choice → Option Row
-offered_of response memin request choice =
-    if choice.class == 1 then first (response choice.source)
-    else if choice.class == 2 then (if choice.source == 0 then first memin else None)
-    else if choice.class == 3 then first (request choice.source)
+abbrev pub offered_among : (ℕ → List Row) → List Row → (ℕ → List Row) → Choice → Option Row
+offered_among response memin request choice =
+    if choice.class == CLASS_RESPONSE then first (response choice.source)
+    else if choice.class == CLASS_MEMORY then (if choice.source == 0 then first memin else None)
+    else if choice.class == CLASS_REQUEST then first (request choice.source)
     else None
 
-abbrev pub offered : State → Choice → Option Row
-offered s choice = offered_of s.response s.memin s.request choice
+abbrev pub offered_head : State → Choice → Option Row
+offered_head s choice = offered_among s.response s.memin s.request choice
 
 abbrev pub is_wait : Option Form → Bool
 is_wait (Some (Wfq _)) = true
 is_wait _ = false
 
--- At `wfq` a choice names a channel; at other instructions the choice is class 0 with source 0.
+-- At `wfq` a choice names a channel; at other instructions it has no class, and source 0.
 abbrev pub is_choice : Option Form → Choice → Bool
-is_choice form choice = if is_wait form then true else choice.class == 0 && choice.source == 0
+is_choice form choice = if is_wait form then true else choice.class == CLASS_NONE && choice.source == 0
 
 -- what the engine sends goes to the ends of its channels, one message after the other
 abbrev pub commands_with : List Row → (ℕ → List Row) → ℕ → List Row
@@ -152,24 +155,26 @@ abbrev pub memout_with : List Row → List Row → List Row
 memout_with [] channel = channel
 memout_with (m ∷ ms) channel = memout_with ms (if is_memout (network_of m) then channel ++ m ∷ [] else channel)
 
--- A request that is popped (head number 1) is taken, and a CohAck that is popped (3) settles one.
-abbrev pub groups_of : Shape → ℕ → ℕ → Option Row → List Group
-groups_of k number source None = []
-groups_of k number source (Some m) = if head_number m == number then record { cache = source; group = group_of k (address_of m) } ∷ [] else []
+-- where a head comes from, if it has this number: a request that is popped is taken, and a CohAck that is popped settles one
+abbrev pub origins_of : Shape → ℕ → ℕ → Option Row → List Origin
+origins_of k number source None = []
+origins_of k number source (Some m) =
+    if head_number m == number then record { cache = source; group = group_of k (address_of m) } ∷ [] else []
 
--- the groups of a popped head
-abbrev pub popped_groups : Shape → State → ℕ → Option Choice → List Group
-popped_groups k s number None = []
-popped_groups k s number (Some choice) = groups_of k number choice.source (offered s choice)
+-- that of a popped head
+abbrev pub popped_origins : Shape → State → ℕ → Option Choice → List Origin
+popped_origins k s number None = []
+popped_origins k s number (Some choice) = origins_of k number choice.source (offered_head s choice)
 
 -- the channels of a class without a popped head
 abbrev pub heads_left : ℕ → Option Choice → (ℕ → List Row) → ℕ → List Row
 heads_left class None channel = channel
-heads_left class (Some choice) channel = if choice.class == class then put channel choice.source (drop 1 (channel choice.source)) else channel
+heads_left class (Some choice) channel = if choice.class == class
+    then put channel choice.source (drop 1 (channel choice.source)) else channel
 
 abbrev pub memin_left : Option Choice → List Row → List Row
 memin_left None memin = memin
-memin_left (Some choice) memin = if choice.class == 2 then drop 1 memin else memin
+memin_left (Some choice) memin = if choice.class == CLASS_MEMORY then drop 1 memin else memin
 
 abbrev pub with_outcome : Shape → State → Outcome → Happening
 with_outcome k s outcome = record {
@@ -177,26 +182,28 @@ with_outcome k s outcome = record {
     engine = outcome.engine;
     command = commands_with outcome.sent s.command;
     memout = memout_with outcome.sent s.memout;
-    taken = s.taken ++ popped_groups k s 1 outcome.popped;
-    settled = s.settled ++ popped_groups k s 3 outcome.popped;
-    response = heads_left 1 outcome.popped s.response;
+    taken = s.taken ++ popped_origins k s HEAD_REQUEST outcome.popped;
+    settled = s.settled ++ popped_origins k s HEAD_COH_ACK outcome.popped;
+    response = heads_left CLASS_RESPONSE outcome.popped s.response;
     memin = memin_left outcome.popped s.memin;
-    request = heads_left 3 outcome.popped s.request;
+    request = heads_left CLASS_REQUEST outcome.popped s.request;
   };
   sent = outcome.sent;
 }
 
 abbrev pub can_run : Shape → List Form → State → Choice → Bool
 can_run k program s choice =
-    nat_lt choice.source k.caches && is_choice (slice_get program s.engine.core.place) choice && runs k s.engine program choice (offered s choice)
+    nat_lt choice.source k.caches && is_choice (slice_get program s.engine.core.place) choice
+    && runs k s.engine program choice (offered_head s choice)
 
 abbrev pub engine_row : Shape → List Form → State → Choice → Option Happening
-engine_row k program s choice = if can_run k program s choice then Some (with_outcome k s (runs_to k s.engine program choice (offered s choice))) else None
+engine_row k program s choice = if can_run k program s choice
+    then Some (with_outcome k s (runs_to k s.engine program choice (offered_head s choice))) else None
 
 -- The row of an event, if it has one.
 abbrev pub row : Shape → List Form → State → Event → Option Happening
-row k program s (Issue c op way) = takes s c (issue_taken k s c op way)
-row k program s (Command c) = takes (without_command s c) c (command_taken k s c)
-row k program s (Fill to from) = takes (without_fill s to from) to (fill_taken k s to from)
-row k program s Memory = accessed s (first s.memout)
+row k program s (Issue c op way) = cache_row s c (issue_taken k s c op way)
+row k program s (Command c) = cache_row (without_command s c) c (command_taken k s c)
+row k program s (Fill to from) = cache_row (without_fill s to from) to (fill_taken k s to from)
+row k program s Memory = access_row s (first s.memout)
 row k program s (Engine choice) = engine_row k program s choice

@@ -1,7 +1,7 @@
 -- Events as the product's types have them.
 use Rattle.std.specs.Prelude.{List, [], ◌∷◌}
 use Rattle.bk_base.specs.Places.{IsAddr}
-use Rattle.bk_lce.specs.Asked.{address_of}
+use Rattle.bk_lce.specs.CacheTable.{address_of}
 use Rattle.bk_system.specs.declared.event.Event.{Event}
 use Rattle.bk_system.specs.declared.event.Event.TheVariants as events
 

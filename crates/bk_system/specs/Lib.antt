@@ -1,11 +1,11 @@
-pub mod Banks
+pub mod CacheStates
 pub mod Channels
+pub mod EventCalls
 pub mod Events
-pub mod Kept
 pub mod Lawful
 pub mod Memory
+pub mod Numbering
 pub mod Queues
-pub mod Rooms
 pub mod Runs
 pub mod State
 pub mod Systems

@@ -8,7 +8,9 @@ use Rattle.bk_msg.specs.declared.row.TheConstants.{ENGINE, MEMORY}
 
 -- the eight words of the block that begins at an address
 abbrev pub words_from : (ℕ → ℕ) → ℕ → List ℕ
-words_from memory a = memory a ∷ memory (a + 8) ∷ memory (a + 16) ∷ memory (a + 24) ∷ memory (a + 32) ∷ memory (a + 40) ∷ memory (a + 48) ∷ memory (a + 56) ∷ []
+words_from memory a = memory a ∷ memory (a + 8) ∷ memory (a + 16) ∷ memory (a + 24) ∷ memory (a + 32) ∷ memory (a + 40)
+    ∷ memory (a + 48)
+    ∷ memory (a + 56) ∷ []
 
 -- a block written: each of its words has the new value, all others stay
 abbrev pub with_block : (ℕ → ℕ) → ℕ → List ℕ → ℕ → ℕ

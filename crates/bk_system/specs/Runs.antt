@@ -5,6 +5,7 @@ use Rattle.bk_base.specs.declared.op.Op.{Op}
 use Rattle.bk_base.specs.declared.op.Done.{Done}
 use Rattle.bk_isa.specs.declared.form.Form.{Form}
 use Rattle.bk_isa.specs.declared.form.Form.TheVariants.{Wfq}
+use Rattle.bk_engine.specs.declared.parts.TheConstants.{CLASS_REQUEST}
 use Rattle.bk_engine.specs.Heads.{names_class}
 use Rattle.bk_trace.specs.Traces.{operations_of}
 use Rattle.bk_system.specs.declared.event.Event.{Event}
@@ -52,7 +53,7 @@ is_quiet k program s =
     && is_wait (slice_get program s.engine.core.place)
 
 abbrev pub names_requests : Option Form → Bool
-names_requests (Some (Wfq classes)) = names_class classes 3
+names_requests (Some (Wfq classes)) = names_class classes CLASS_REQUEST
 names_requests _ = false
 
 -- Rested: it is quiet, the `wfq` names requests, no way group is pending, and no cache has an operation in progress.

@@ -6,8 +6,8 @@ use Rattle.bk_base.specs.declared.op.Done.{Done}
 use Rattle.bk_msg.specs.declared.row.Row.{Row}
 use Rattle.bk_lce.specs.CacheState as caches
 use Rattle.bk_lce.specs.CacheState.{CacheState}
-use Rattle.bk_engine.specs.Core.{EngineState, new_engine}
-use Rattle.bk_system.specs.declared.event.Group.{Group}
+use Rattle.bk_engine.specs.Engine.{EngineState, new_engine}
+use Rattle.bk_system.specs.declared.event.Origin.{Origin}
 
 pub record State : Type 0 where
   pub caches : ℕ → CacheState  -- by cache
@@ -20,8 +20,8 @@ pub record State : Type 0 where
   pub memout : List Row
   pub memin : List Row
   pub history : List Done  -- the operations that have completed, the oldest first
-  pub taken : List Group  -- an entry for each request that was popped
-  pub settled : List Group  -- an entry for each CohAck that was popped
+  pub taken : List Origin  -- of each request that was popped
+  pub settled : List Origin  -- of each CohAck that was popped
 
 -- where each run begins: caches, directory and channels are empty, and the memory's words are 0
 abbrev pub opening : Shape → State

@@ -1,10 +1,10 @@
 -- The state that a system's hardware stands for.
-use Rattle.bk_engine.specs.Engines as engines
+use Rattle.bk_engine.specs.Engine as engines
 use Rattle.bk_system.specs.declared.hardware.Hardware.{Hardware}
-use Rattle.bk_system.specs.Banks.{states_of}
+use Rattle.bk_system.specs.CacheStates.{states_of}
 use Rattle.bk_system.specs.Channels.{queue, word_at}
 use Rattle.bk_system.specs.State.{State}
-use Rattle.bk_system.specs.Kept.{fills_of}
+use Rattle.bk_system.specs.Numbering.{fills_of}
 
 abbrev pub state_of : Hardware → State
 state_of y = record {

@@ -1,12 +1,12 @@
 ghost use Rattle.std.specs.Prelude.{◌≡◌, ◌<◌, vec_len, IfOk, is_some};
 ghost use Rattle.bk_base.specs.Tables.{put};
 ghost use Rattle.bk_msg.specs.Within.{IsWithin};
-ghost use Rattle.bk_lce.specs.Calls.{SendsWithin, CompletesOwn};
-ghost use Rattle.bk_system.specs.Kept.{AreCaches};
+ghost use Rattle.bk_lce.specs.CacheTable.{SendsWithin, CompletesOwn};
+ghost use Rattle.bk_system.specs.Numbering.{AreCaches};
 
 use crate::bounds::cache_count;
 use bk_base::{Config, Op};
-use bk_lce::{Busy, CacheArrays, Foreign, Step};
+use bk_lce::{Busy, CacheArrays, CacheStep, Foreign};
 use bk_msg::Message;
 use std::alloc::{AllocError, Global};
 
@@ -22,8 +22,8 @@ pub struct Caches {
 impl Caches {
     ghost use Rattle.bk_lce.specs.CacheState.{opening};
     ghost use Rattle.bk_lce.specs.CacheTable.{Gives, issue, command, fill};
-    ghost use Rattle.bk_lce.specs.Caches.{state_of};
-    ghost use Rattle.bk_system.specs.Banks.{states_of};
+    ghost use Rattle.bk_lce.specs.CacheArrays.{state_of};
+    ghost use Rattle.bk_system.specs.CacheStates.{states_of};
 
     /// As many caches as the configuration has, which were never used.
     pub fn make(alloc: Global, config: Config) -> Result<Caches, AllocError>
@@ -49,10 +49,11 @@ impl Caches {
     }
 
     /// Gives a cache an operation, with the way of a victim.
-    pub fn issue_at(&mut self, cache: u8, op: Op, way: u8) -> Result<Step, Busy>
+    pub fn issue_at(&mut self, cache: u8, op: Op, way: u8) -> Result<CacheStep, Busy>
         requires cache { cache < self.old.config.caches }
         requires way { way < self.old.config.ways }
-        ensures gives { Gives (issue self.old.config (states_of self.old cache) cache op way) (states_of self.old cache) (states_of self.new cache) result }
+        ensures gives { Gives (issue self.old.config (states_of self.old cache) cache op way) (states_of self.old cache)
+            (states_of self.new cache) result }
         ensures others { states_of self.new ≡ put (states_of self.old) cache (states_of self.new cache) }
         ensures within { IfOk result (SendsWithin self.old.config) }
         ensures own { IfOk result (CompletesOwn cache) }
@@ -63,10 +64,11 @@ impl Caches {
     }
 
     /// Hands a cache a message of the command network.
-    pub fn command(&mut self, cache: u8, message: &Message) -> Result<Step, Foreign>
+    pub fn command(&mut self, cache: u8, message: &Message) -> Result<CacheStep, Foreign>
         requires cache { cache < self.old.config.caches }
         requires within { IsWithin self.old.config message.now }
-        ensures gives { Gives (command self.old.config (states_of self.old cache) cache message.now) (states_of self.old cache) (states_of self.new cache) result }
+        ensures gives { Gives (command self.old.config (states_of self.old cache) cache message.now) (states_of self.old cache)
+            (states_of self.new cache) result }
         ensures others { states_of self.new ≡ put (states_of self.old) cache (states_of self.new cache) }
         ensures within { IfOk result (SendsWithin self.old.config) }
         ensures own { IfOk result (CompletesOwn cache) }
@@ -77,10 +79,11 @@ impl Caches {
     }
 
     /// Hands a cache a message of the fill network.
-    pub fn fill(&mut self, cache: u8, message: &Message) -> Result<Step, Foreign>
+    pub fn fill(&mut self, cache: u8, message: &Message) -> Result<CacheStep, Foreign>
         requires cache { cache < self.old.config.caches }
         requires within { IsWithin self.old.config message.now }
-        ensures gives { Gives (fill self.old.config (states_of self.old cache) cache message.now) (states_of self.old cache) (states_of self.new cache) result }
+        ensures gives { Gives (fill self.old.config (states_of self.old cache) cache message.now) (states_of self.old cache)
+            (states_of self.new cache) result }
         ensures others { states_of self.new ≡ put (states_of self.old) cache (states_of self.new cache) }
         ensures within { IfOk result (SendsWithin self.old.config) }
         ensures own { IfOk result (CompletesOwn cache) }

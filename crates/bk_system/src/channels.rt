@@ -35,7 +35,7 @@ impl Channels {
         Ok(Channels { config, queues })
     }
 
-    /// Makes room for so many messages more in a channel. Want of memory changes nothing.
+    /// Makes room for so many messages more in a channel. Nothing changes where memory runs out.
     pub fn reserve(&mut self, channel: u8, more: usize) -> Result<(), AllocError>
         requires { channel < channel_count self.old }
         ensures queue { queue self.new ≡ queue self.old }

@@ -1,6 +1,10 @@
 use bk_base::Op;
 use bk_engine::Choice;
 
+/// How many messages an event sends at the most, with room to spare: an `inv` sends one to each of eight caches at the most, any other
+/// instruction and a step of a cache or of the memory at most one.
+pub const MOST_SENT: usize = 16;
+
 /// One local step of one agent.
 #[derive(Clone, Copy, Debug, PartialEq, Eq)]
 pub enum Event {
@@ -16,9 +20,9 @@ pub enum Event {
     Engine { choice: Choice },
 }
 
-/// A way group that the engine works on for a cache.
+/// Where a request comes from: its cache, and the way group of its address.
 #[derive(Clone, Copy, Debug, PartialEq, Eq)]
-pub struct Group {
+pub struct Origin {
     pub cache: u8,
     pub group: u8,
 }

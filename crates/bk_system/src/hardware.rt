@@ -1,11 +1,11 @@
-ghost use Rattle.std.specs.Prelude.{◌≡◌, ◌≤◌, ◌<◌, ℕ, [], vec_len, IfOk};
+ghost use Rattle.std.specs.Prelude.{◌≡◌, ◌≤◌, ◌<◌, ℕ, [], length, vec_len, IfOk};
 ghost use Rattle.bk_system.specs.Channels.{channel_count};
-ghost use Rattle.bk_system.specs.Kept.{AreCounts};
+ghost use Rattle.bk_system.specs.Numbering.{AreCounts};
 
 use crate::bounds::cache_count;
 use crate::caches::Caches;
 use crate::channels::Channels;
-use crate::event::Group;
+use crate::event::{MOST_SENT, Origin};
 use crate::memory::MainMemory;
 use arrayvec::ArrayVec;
 use bk_base::{Config, Done};
@@ -36,11 +36,11 @@ pub struct Hardware {
     pub(crate) history: Vec<Done>,
     /// How many entries each cache has in the history.
     pub(crate) completed: Vec<usize>,
-    pub(crate) taken: Vec<Group>,
-    pub(crate) settled: Vec<Group>,
+    pub(crate) taken: Vec<Origin>,
+    pub(crate) settled: Vec<Origin>,
     /// What the last event has sent, where it ran. It is no part of the state that the hardware stands for: it is kept here since
     /// making and moving a list of sixteen messages takes many times as long as an event.
-    pub(crate) sent: ArrayVec<Message, 16>,
+    pub(crate) sent: ArrayVec<Message, MOST_SENT>,
     ghost few_caches: { config.caches ≤ 8 },
     ghost caches_config: { caches.config ≡ config },
     ghost engine_config: { engine.config ≡ config },
@@ -73,7 +73,8 @@ fn zeros(alloc: Global, count: u8) -> Result<Vec<usize>, AllocError>
 }
 
 impl Hardware {
-    ghost use Rattle.bk_lce.specs.Caches as caches;
+    ghost use Rattle.bk_lce.specs.CacheArrays as caches;
+    ghost use Rattle.bk_system.specs.Runs.{completed_by};
     ghost use Rattle.bk_system.specs.State.{opening};
     ghost use Rattle.bk_system.specs.Systems.{state_of};
 
@@ -104,6 +105,28 @@ impl Hardware {
             settled: Vec::new(alloc),
             sent: ArrayVec::new(),
         })
+    }
+
+    /// The configuration: how many caches, sets and ways there are.
+    pub fn config(&self) -> Config
+        ensures { result ≡ self.now.config }
+    {
+        self.config
+    }
+
+    /// The operations that have completed, the oldest first.
+    pub fn history(&self) -> &[Done]
+        ensures { result.now ≡ (state_of self.now).history }
+    {
+        &self.history
+    }
+
+    /// How many operations a cache has completed.
+    pub fn completed(&self, cache: u8) -> usize
+        requires { cache < self.now.config.caches }
+        ensures { result ≡ length (completed_by cache (state_of self.now).history) }
+    {
+        self.completed[cache as usize]
     }
 
     /// How many caches there are.

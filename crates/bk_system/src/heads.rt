@@ -3,21 +3,16 @@ ghost use Rattle.std.specs.Option.{option_copied};
 ghost use Rattle.bk_msg.specs.Within.{IsWithin};
 ghost use Rattle.bk_system.specs.Channels.{queue, channel_count};
 ghost use Rattle.bk_system.specs.Runs.{names_requests};
-ghost use Rattle.bk_system.specs.Events.{is_wait, is_choice, offered_of, groups_of, heads_left, memin_left};
+ghost use Rattle.bk_system.specs.Events.{is_wait, is_choice, offered_among, origins_of, heads_left, memin_left};
 
 use crate::channels::Channels;
-use crate::event::Group;
+use crate::event::Origin;
 use bk_base::{Config, group_of};
-use bk_engine::{Choice, head_number, names_class};
+use bk_engine::{
+    CLASS_MEMORY, CLASS_NONE, CLASS_REQUEST, CLASS_RESPONSE, Choice, head_number, names_class,
+};
 use bk_isa::{Form, Instr};
 use bk_msg::Message;
-
-/// The classes of heads that `wfq` takes.
-pub const RESPONSES: u8 = 1;
-
-pub const MEMORY_ANSWERS: u8 = 2;
-
-pub const REQUESTS: u8 = 3;
 
 /// Whether the instruction at a place is a `wfq`.
 pub(crate) fn is_wait(program: &[Instr], place: u32) -> bool
@@ -36,7 +31,7 @@ pub(crate) fn names_requests(program: &[Instr], place: u32) -> bool
     match program.get(place as usize) {
         None => false,
         Some(instr) => match instr.form() {
-            Form::Wfq { a } => names_class(a, REQUESTS),
+            Form::Wfq { a } => names_class(a, CLASS_REQUEST),
             _ => false,
         },
     }
@@ -49,7 +44,7 @@ pub(crate) fn is_choice(program: &[Instr], place: u32, choice: Choice) -> bool
     if is_wait(program, place) {
         true
     } else {
-        choice.class == 0 && choice.source == 0
+        choice.class == CLASS_NONE && choice.source == 0
     }
 }
 
@@ -62,19 +57,19 @@ pub(crate) fn offered<'a>(
 ) -> Option<&'a Message>
     requires memin { memin.now.config ≡ responses.now.config }
     requires requests { requests.now.config ≡ responses.now.config }
-    ensures value { option_copied result ≡ offered_of (queue responses.now) (queue memin.now 0) (queue requests.now) choice }
+    ensures value { option_copied result ≡ offered_among (queue responses.now) (queue memin.now 0) (queue requests.now) choice }
     ensures within { IfSome result (λ message. IsWithin responses.now.config message.now) }
 {
     match choice.class {
-        RESPONSES => responses.head(choice.source),
-        MEMORY_ANSWERS => {
+        CLASS_RESPONSE => responses.head(choice.source),
+        CLASS_MEMORY => {
             if choice.source == 0 {
                 memin.head(0)
             } else {
                 None
             }
         }
-        REQUESTS => requests.head(choice.source),
+        CLASS_REQUEST => requests.head(choice.source),
         _ => None,
     }
 }
@@ -88,7 +83,7 @@ pub(crate) fn head_of(
 ) -> Option<Message>
     requires memin { memin.now.config ≡ responses.now.config }
     requires requests { requests.now.config ≡ responses.now.config }
-    ensures { result ≡ offered_of (queue responses.now) (queue memin.now 0) (queue requests.now) choice }
+    ensures { result ≡ offered_among (queue responses.now) (queue memin.now 0) (queue requests.now) choice }
 {
     match offered(responses, memin, requests, choice) {
         None => None,
@@ -96,27 +91,27 @@ pub(crate) fn head_of(
     }
 }
 
-/// Notes the group of a popped head of a source, where it has this value as a head. Room was made.
-pub(crate) fn note_group(
-    groups: &mut Vec<Group>,
+/// Notes the cache and the way group of a popped head, where it has this number as a head. Room was made.
+pub(crate) fn note_origin(
+    origins: &mut Vec<Origin>,
     config: Config,
     number: u8,
     source: u8,
     head: &Option<Message>,
 )
-    requires { vec_len groups.old < vec_capacity groups.old }
-    ensures { groups.new.items ≡ groups.old.items ++ groups_of config number source head.now }
+    requires { vec_len origins.old < vec_capacity origins.old }
+    ensures { origins.new.items ≡ origins.old.items ++ origins_of config number source head.now }
 {
     let Some(message) = head else {
         return;
     };
     let row = message.row();
     if head_number(&row) == number {
-        let group = Group {
+        let origin = Origin {
             cache: source,
             group: group_of(config, row.address()),
         };
-        match groups.push(group) {
+        match origins.push(origin) {
             Ok(()) => (),
             Err(_) => unreachable!(),
         }
@@ -142,7 +137,7 @@ pub(crate) fn take_answer_off(memin: &mut Channels, choice: Choice)
     ensures count { channel_count memin.new ≡ channel_count memin.old }
     ensures config { memin.new.config ≡ memin.old.config }
 {
-    if choice.class == MEMORY_ANSWERS {
+    if choice.class == CLASS_MEMORY {
         let _ = memin.pop(0);
     }
 }

@@ -1,21 +1,20 @@
 //! The hardware of a system: its caches, engine, memory and channels, and what each event does in it.
 #![tactic(auto)]
 
+mod any_event;
 mod bounds;
+mod cache_events;
 mod caches;
 mod channels;
+mod engine_event;
 mod event;
-mod happening;
 mod hardware;
 mod heads;
-mod looks;
 mod memory;
-mod rest;
-mod running;
+mod memory_event;
+mod quiet;
 mod sending;
-mod steps;
 
-pub use event::{Event, Group};
+pub use event::{Event, MOST_SENT, Origin};
 pub use hardware::Hardware;
-pub use heads::{MEMORY_ANSWERS, REQUESTS, RESPONSES};
 pub use memory::MainMemory;

@@ -3,10 +3,10 @@ ghost use Rattle.std.specs.Option.{option_to_list};
 ghost use Rattle.bk_base.specs.declared.op.Done.{Done};
 ghost use Rattle.bk_msg.specs.Within.{IsWithin};
 ghost use Rattle.bk_msg.specs.declared.row.Row.{Row};
-ghost use Rattle.bk_engine.specs.Outward.{IsOutward};
+ghost use Rattle.bk_engine.specs.Step.{IsOutward};
 ghost use Rattle.bk_system.specs.Channels.{queue, room, channel_count};
 ghost use Rattle.bk_system.specs.Events.{requests_with, responses_with, fills_with, commands_with, memout_with};
-ghost use Rattle.bk_system.specs.Kept.{fill_place, fills_of, AreCounts};
+ghost use Rattle.bk_system.specs.Numbering.{fill_place, fills_of, AreCounts};
 
 use crate::channels::Channels;
 use bk_base::{Done, Op};
@@ -76,7 +76,7 @@ pub(crate) fn send_fill(fills: &mut Channels, cache: u8, sent: Option<Message>)
     }
 }
 
-/// Makes room for a message in each fill channel from a cache. Want of memory changes nothing.
+/// Makes room for a message in each fill channel from a cache. Nothing changes where memory runs out.
 pub(crate) fn reserve_fills(fills: &mut Channels, caches: u8, from: u8) -> Result<(), AllocError>
     requires caches { caches ≤ 8 }
     requires from { from < 8 }
@@ -95,7 +95,7 @@ pub(crate) fn reserve_fills(fills: &mut Channels, caches: u8, from: u8) -> Resul
     Ok(())
 }
 
-/// Makes room for so many messages in each of the channels. Want of memory changes nothing.
+/// Makes room for so many messages in each of the channels. Nothing changes where memory runs out.
 pub(crate) fn reserve_each(
     channels: &mut Channels,
     count: u8,
@@ -169,7 +169,8 @@ fn send_one(commands: &mut Channels, memout: &mut Channels, message: &Message)
     requires memout_room { 1 ≤ room memout.old 0 }
     requires within { IsWithin commands.old.config message.now }
     requires same { memout.old.config ≡ commands.old.config }
-    ensures commands { (ms : List Row) → commands_with ms (queue commands.new) ≡ commands_with (message.now ∷ ms) (queue commands.old) }
+    ensures commands { (ms : List Row) → commands_with ms (queue commands.new)
+        ≡ commands_with (message.now ∷ ms) (queue commands.old) }
     ensures memout { (ms : List Row) → memout_with ms (queue memout.new 0) ≡ memout_with (message.now ∷ ms) (queue memout.old 0) }
     ensures commands_room { (c : ℕ) → room commands.old c ≤ room commands.new c + 1 }
     ensures memout_room { (c : ℕ) → room memout.old c ≤ room memout.new c + 1 }

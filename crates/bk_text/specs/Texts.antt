@@ -34,8 +34,8 @@ abbrev pub words_of : ℕ → List ℕ → List (List ℕ)
 words_of mark line = filter is_nonempty (slice_split is_blank (before_comment mark line))
 
 -- the words of each line that has some
-abbrev pub rows_of : ℕ → List ℕ → List (List (List ℕ))
-rows_of mark bytes = filter is_nonempty (map (words_of mark) (lines bytes))
+abbrev pub words_by_line : ℕ → List ℕ → List (List (List ℕ))
+words_by_line mark bytes = filter is_nonempty (map (words_of mark) (lines bytes))
 
 abbrev pub is_digit : ℕ → ℕ → Bool
 is_digit radix b = nat_lt (digit_value b) radix
@@ -43,7 +43,8 @@ is_digit radix b = nat_lt (digit_value b) radix
 -- the number of 1 to `most` digits, if it is below 2^64
 unfoldable pub digits_number : ℕ → ℕ → List ℕ → Option ℕ
 digits_number radix most digits =
-    if nat_le 1 (length digits) && nat_le (length digits) most && list_all (is_digit radix) digits && nat_lt (digits_value radix digits) (2 ^ 64)
+    if nat_le 1 (length digits) && nat_le (length digits) most && list_all (is_digit radix) digits
+    && nat_lt (digits_value radix digits) (2 ^ 64)
     then Some (digits_value radix digits)
     else None
 

@@ -1,8 +1,8 @@
 ghost use Rattle.std.specs.Prelude.{◌≡◌, ◌+◌, ◌<◌, ◌^◌, length, drop};
 ghost use Rattle.bk_text.specs.Items.{items_of, next_item};
 
-use crate::row::cut_word;
 use crate::scan::{LINE_FEED, first_index, strip_carriage_return};
+use crate::text_line::cut_word;
 use std::marker::Model;
 
 /// What comes next in a text.
@@ -40,7 +40,7 @@ pub struct Lines<'a> {
 
 impl<'a> Model for Lines<'a> {
     ghost use Rattle.std.specs.Prelude.{◌+◌, ◌-◌, ◌<◌, ◌≤◌, ◌^◌, ◌++◌, List, length, if◌then◌else◌};
-    ghost use Rattle.bk_text.specs.Rows.{words_from};
+    ghost use Rattle.bk_text.specs.LineWords.{words_from};
     ghost use Rattle.bk_text.specs.Items.{line_items, items_after};
     ghost use Rattle.bk_text.specs.declared.lines.Word.{Word as Item};
 

@@ -38,18 +38,18 @@ fn words_of_a_text(rt: HostRuntime) {
 fn words_of_a_line(rt: HostRuntime) -> Result<(), Fail> {
     let (line, rest) = cut_line(b"\tbi  x;y\x01 z\r\n\n");
     assert!(rt; rest == b"\n".as_slice());
-    let mut row = Row::of(b';', line);
-    assert!(rt; row.has_word());
-    let first = row.next_word().ok_or("a word")?;
+    let mut line = TextLine::of(b';', line);
+    assert!(rt; line.has_word());
+    let first = line.next_word().ok_or("a word")?;
     assert_eq!(rt; first.column, 2);
     assert!(rt; first.word == b"bi".as_slice());
-    let second = row.next_word().ok_or("a word")?;
+    let second = line.next_word().ok_or("a word")?;
     assert_eq!(rt; second.column, 6);
     assert!(rt; second.word == b"x".as_slice());
-    assert!(rt; !row.has_word());
-    assert!(rt; row.next_word().is_none());
-    assert_eq!(rt; row.bad_byte(), Some(9));
-    assert_eq!(rt; row.end(), 12);
+    assert!(rt; !line.has_word());
+    assert!(rt; line.next_word().is_none());
+    assert_eq!(rt; line.bad_byte(), Some(9));
+    assert_eq!(rt; line.end(), 12);
     Ok(())
 }
 

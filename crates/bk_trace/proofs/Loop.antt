@@ -5,17 +5,18 @@ use Rattle.std.specs.List.{All, cons_option}
 use Rattle.std.proofs.lemmas.List.Elements.{All-push}
 use Rattle.std.proofs.lemmas.List.{append-nil, length_push}
 use Rattle.bk_base.specs.declared.op.Op.{Op}
-use Rattle.bk_trace.specs.declared.fault.At.{At}
+use Rattle.bk_text.specs.Faults.{Bad, ◌>>=◌}
 use Rattle.bk_trace.specs.Traces.{IsLine}
-use Rattle.bk_trace.specs.Faults.{Bad, bad}
-use Rattle.bk_trace.specs.Reading.{◌>>=◌, row_at, counted, line_at, lines_at, first_at, config_from}
+use Rattle.bk_trace.specs.Faults.{At, bad}
+use Rattle.bk_trace.specs.Reading.{line_of, counted, line_at, lines_at, first_at, config_from}
 use Rattle.bk_base.specs.Places.{Shape}
 
 -- what was read before, and what is still read
 abbrev pub with_front : List (ℕ × Op) → Result (List (ℕ × Op)) Bad → Result (List (ℕ × Op)) Bad
 with_front front read = read >>= λ lines. Ok (front ++ lines)
 
-front_bind : (front : List (ℕ × Op)) (o : Option (ℕ × Op)) (r : Result (List (ℕ × Op)) Bad) → with_front front (r >>= λ others. Ok (cons_option o others)) ≡ with_front (front ++ option_to_list o) r
+front_bind : (front : List (ℕ × Op)) (o : Option (ℕ × Op)) (r : Result (List (ℕ × Op)) Bad)
+    → with_front front (r >>= λ others. Ok (cons_option o others)) ≡ with_front (front ++ option_to_list o) r
 front_bind front None (Ok x) = ap (λ l. Ok (l ++ x)) (sym (append-nil front))
 front_bind front None (Err e) = refl
 front_bind front (Some op) (Ok x) = ap Ok (sym (append_assoc front (op ∷ []) x))
@@ -26,25 +27,32 @@ count_kept front None = ap length (sym (append-nil front))
 count_kept front (Some op) = sym (length_push front op)
 
 -- a line that is read
-pub goes_on : (front : List (ℕ × Op)) (caches line : ℕ) (text : List ℕ) (texts : List (List ℕ)) (o : Option (ℕ × Op)) → line_at 10000 caches (length front) (row_at text) (row_at text).words ≡ Ok o
-    → with_front front (lines_at 10000 caches (length front) line (text ∷ texts)) ≡ with_front (front ++ option_to_list o) (lines_at 10000 caches (length (front ++ option_to_list o)) (line + 1) texts)
+pub goes_on : (front : List (ℕ × Op)) (caches line : ℕ) (text : List ℕ) (texts : List (List ℕ)) (o : Option (ℕ × Op))
+    → line_at 10000 caches (length front) (line_of text) (line_of text).words ≡ Ok o
+    → with_front front (lines_at 10000 caches (length front) line (text ∷ texts))
+    ≡ with_front (front ++ option_to_list o) (lines_at 10000 caches (length (front ++ option_to_list o)) (line + 1) texts)
 unfolding lines_at
 goes_on front caches line text texts o e =
-    let one : with_front front (lines_at 10000 caches (length front) line (text ∷ texts)) ≡ with_front front (lines_at 10000 caches (counted (length front) o) (line + 1) texts >>= λ others. Ok (cons_option o others)) = rw e refl in
+    let one : with_front front (lines_at 10000 caches (length front) line (text ∷ texts))
+    ≡ with_front front (lines_at 10000 caches (counted (length front) o) (line + 1) texts >>= λ others.
+    Ok (cons_option o others)) = rw e refl in
     one ∙ front_bind front o (lines_at 10000 caches (counted (length front) o) (line + 1) texts)
     ∙ ap (λ n. with_front (front ++ option_to_list o) (lines_at 10000 caches n (line + 1) texts)) (count_kept front o)
 
 -- a line with a fault
-pub stops : (front : List (ℕ × Op)) (caches line : ℕ) (text : List ℕ) (texts : List (List ℕ)) (fault : At) → line_at 10000 caches (length front) (row_at text) (row_at text).words ≡ Err fault
+pub stops : (front : List (ℕ × Op)) (caches line : ℕ) (text : List ℕ) (texts : List (List ℕ)) (fault : At)
+    → line_at 10000 caches (length front) (line_of text) (line_of text).words ≡ Err fault
     → with_front front (lines_at 10000 caches (length front) line (text ∷ texts)) ≡ Err (bad line fault)
 unfolding lines_at
 stops front caches line text texts fault e = rw e refl
 
-pub few_kept : (front : List (ℕ × Op)) (o : Option (ℕ × Op)) (n : ℕ) → n ≡ length front → length front ≤ 10000 → IfSome o (λ line. n < 10000) → length (front ++ option_to_list o) ≤ 10000
+pub few_kept : (front : List (ℕ × Op)) (o : Option (ℕ × Op)) (n : ℕ) → n ≡ length front → length front ≤ 10000
+    → IfSome o (λ line. n < 10000) → length (front ++ option_to_list o) ≤ 10000
 few_kept front None n is few room = rw append-nil few
 few_kept front (Some op) n is few room = omega (arith, length_push front op)
 
-pub each_kept : (caches : ℕ) (front : List (ℕ × Op)) (o : Option (ℕ × Op)) → All (λ line. IsLine caches line) front → IfSome o (λ line. IsLine caches line) → All (λ line. IsLine caches line) (front ++ option_to_list o)
+pub each_kept : (caches : ℕ) (front : List (ℕ × Op)) (o : Option (ℕ × Op)) → All (λ line. IsLine caches line) front
+    → IfSome o (λ line. IsLine caches line) → All (λ line. IsLine caches line) (front ++ option_to_list o)
 each_kept caches front None each line = rw append-nil each
 each_kept caches front (Some op) each line = All-push (λ line. IsLine caches line) front op each line
 
@@ -54,14 +62,18 @@ ends front caches line = ap Ok (append-nil front)
 
 -- the same up to the configuration
 
-pub config_past : (line : ℕ) (text : List ℕ) (texts : List (List ℕ)) → first_at (row_at text) (row_at text).words ≡ Ok None → config_from line (text ∷ texts) ≡ config_from (line + 1) texts
+pub config_past : (line : ℕ) (text : List ℕ) (texts : List (List ℕ)) → first_at (line_of text) (line_of text).words ≡ Ok None
+    → config_from line (text ∷ texts) ≡ config_from (line + 1) texts
 unfolding config_from
 config_past line text texts e = rw e refl
 
-pub config_found : (line : ℕ) (text : List ℕ) (texts : List (List ℕ)) (config : Shape) → first_at (row_at text) (row_at text).words ≡ Ok (Some config) → config_from line (text ∷ texts) ≡ Ok (config, (line + 1, texts))
+pub config_found : (line : ℕ) (text : List ℕ) (texts : List (List ℕ)) (config : Shape)
+    → first_at (line_of text) (line_of text).words ≡ Ok (Some config)
+    → config_from line (text ∷ texts) ≡ Ok (config, (line + 1, texts))
 unfolding config_from
 config_found line text texts config e = rw e refl
 
-pub config_stops : (line : ℕ) (text : List ℕ) (texts : List (List ℕ)) (fault : At) → first_at (row_at text) (row_at text).words ≡ Err fault → config_from line (text ∷ texts) ≡ Err (bad line fault)
+pub config_stops : (line : ℕ) (text : List ℕ) (texts : List (List ℕ)) (fault : At)
+    → first_at (line_of text) (line_of text).words ≡ Err fault → config_from line (text ∷ texts) ≡ Err (bad line fault)
 unfolding config_from
 config_stops line text texts fault e = rw e refl

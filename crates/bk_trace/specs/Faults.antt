@@ -1,8 +1,10 @@
 -- The faults of a trace's text.
 use Rattle.std.specs.Prelude.{◌≡◌, ℕ, Option, None, Result, Ok, Err}
+use Rattle.bk_text.specs.declared.fault.At as places
+use Rattle.bk_text.specs.Faults as texts
+use Rattle.bk_text.specs.Faults.{Bad}
 use Rattle.bk_trace.specs.declared.fault.Kind.{Kind}
 use Rattle.bk_trace.specs.declared.fault.Kind.TheVariants as kinds
-use Rattle.bk_trace.specs.declared.fault.At.{At}
 use Rattle.bk_trace.specs.declared.fault.TraceFault.{TraceFault}
 use Rattle.bk_trace.specs.declared.fault.TraceFault.TheVariants as errors
 
@@ -16,14 +18,12 @@ kind_code kinds.Value = 45
 kind_code kinds.Extra = 46
 kind_code kinds.TooMany = 47
 
--- the line and column of a fault, and the number of its kind
-pub record Bad : Type 0 where
-  pub line : ℕ
-  pub column : ℕ
-  pub kind : ℕ
+-- what is wrong with a line, and in which column
+abbrev pub At : Type 0
+At = places.At Kind
 
 abbrev pub bad : ℕ → At → Bad
-bad line at = record { line = line; column = at.column; kind = kind_code at.kind }
+bad line fault = texts.bad kind_code line fault
 
 abbrev pub fault_of : Bad → TraceFault
 fault_of b = errors.Bad b.line b.column b.kind

@@ -6,11 +6,11 @@ use Rattle.bk_base.specs.declared.op.Op.TheVariants.{Load, Store, UcLoad, UcStor
 
 -- the state after a draw: a linear congruential generator modulo 2^32
 unfoldable pub drawn : ℕ → ℕ
-drawn x = (x * 69069 + 1) % 2 ^ 32
+drawn n = (n * 69069 + 1) % 2 ^ 32
 
 -- what a draw gives: the upper half of the state behind it
 abbrev pub given : ℕ → ℕ
-given x = x / 65536
+given n = n / 65536
 
 -- of sixteen: seven loads, six stores, and one of each other operation
 abbrev pub op_of_sixteen : ℕ → ℕ → ℕ → Op
@@ -31,7 +31,7 @@ operation_of_draws k number a b c d = (given a % k.caches, op_of_sixteen (given 
 
 -- so many operations, from a state and the number of the first
 unfoldable pub generated : Shape → ℕ → ℕ → ℕ → List (ℕ × Op)
-generated k x number zero = []
-generated k x number (suc n) =
-    operation_of_draws k number (drawn x) (drawn (drawn x)) (drawn (drawn (drawn x))) (drawn (drawn (drawn (drawn x))))
-    ∷ generated k (drawn (drawn (drawn (drawn x)))) (number + 1) n
+generated k i number zero = []
+generated k i number (suc n) =
+    operation_of_draws k number (drawn i) (drawn (drawn i)) (drawn (drawn (drawn i))) (drawn (drawn (drawn (drawn i))))
+    ∷ generated k (drawn (drawn (drawn (drawn i)))) (number + 1) n

@@ -5,7 +5,7 @@ use Rattle.std.specs.Str.{bytes_eq}
 use Rattle.bk_base.specs.Places.{Shape, is_small_count, is_set_count, addr_of}
 use Rattle.bk_base.specs.declared.op.Op.{Op}
 use Rattle.bk_base.specs.declared.op.Op.TheVariants.{Load, Store, UcLoad, UcStore, Evict}
-use Rattle.bk_text.specs.Texts.{is_text, rows_of, number_of}
+use Rattle.bk_text.specs.Texts.{is_text, words_by_line, number_of}
 use Rattle.bk_trace.specs.Traces.{Parts}
 use Rattle.bk_trace.specs.declared.words.Name.{Name}
 use Rattle.bk_trace.specs.declared.words.Name.TheVariants as names
@@ -78,22 +78,22 @@ operation_of caches (cache ∷ name ∷ address ∷ values) = do
   Some (c, op)
 operation_of caches _ = None
 
--- each row is an operation
+-- each line is an operation
 abbrev pub lines_of : ℕ → List (List (List ℕ)) → Option (List (ℕ × Op))
 lines_of caches [] = Some []
-lines_of caches (row ∷ rows) = do
-  line ← operation_of caches row
-  lines ← lines_of caches rows
+lines_of caches (words ∷ others) = do
+  line ← operation_of caches words
+  lines ← lines_of caches others
   Some (line ∷ lines)
 
--- the first row is the configuration, and at most 10,000 rows follow
+-- the first line is the configuration, and at most 10,000 follow
 unfoldable pub parts_of : List (List (List ℕ)) → Option Parts
 parts_of [] = None
-parts_of (first ∷ rows) = do
+parts_of (first ∷ others) = do
   config ← shape_of first
-  lines ← lines_of config.caches rows
-  if nat_le (length rows) 10000 then Some (record { config = config; lines = lines }) else None
+  lines ← lines_of config.caches others
+  if nat_le (length others) 10000 then Some (record { config = config; lines = lines }) else None
 
 -- the trace that a text spells, if it spells one
 unfoldable pub trace_of : List ℕ → Option Parts
-trace_of text = if is_text text then parts_of (rows_of comment_mark text) else None
+trace_of text = if is_text text then parts_of (words_by_line comment_mark text) else None

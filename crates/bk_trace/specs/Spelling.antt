@@ -25,7 +25,7 @@ abbrev pub line_text : ℕ × Op → List ℕ
 line_text line = operation_text line.0 line.1 ++ codes "\n"
 
 abbrev pub config_text : Shape → List ℕ
-config_text s = codes "config " ++ decimal s.caches ++ codes " " ++ decimal s.sets ++ codes " " ++ decimal s.ways ++ codes "\n"
+config_text k = codes "config " ++ decimal k.caches ++ codes " " ++ decimal k.sets ++ codes " " ++ decimal k.ways ++ codes "\n"
 
 -- the configuration, and a line for each operation
 abbrev pub spelling : Parts → List ℕ

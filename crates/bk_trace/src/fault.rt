@@ -1,7 +1,9 @@
 ghost use Rattle.std.specs.Prelude.{◌≡◌};
 ghost use Rattle.bk_trace.specs.Faults.{kind_code, bad, fault_of};
+ghost use Rattle.bk_trace.specs.declared.fault.Kind.TheVariants.{Byte, Extra};
 ghost use Rattle.bk_trace.specs.declared.fault.TraceFault.TheVariants.{Memory};
 
+use bk_text::FaultKind;
 use std::alloc::{AllocError, AllocFailed};
 use thiserror::Error;
 
@@ -44,23 +46,31 @@ impl Kind {
     }
 }
 
-/// What is wrong with a line, and in which column.
-#[derive(Clone, Copy, Debug, PartialEq, Eq)]
-pub(crate) struct At {
-    pub column: u64,
-    pub kind: Kind,
+impl FaultKind for Kind {
+    ghost byte = { Byte };
+
+    ghost extra = { Extra };
+
+    fn byte() -> Kind {
+        Kind::Byte
+    }
+
+    fn extra() -> Kind {
+        Kind::Extra
+    }
 }
 
-impl At {
-    /// The same in the line of a number.
-    pub fn on_line(self, line: u64) -> TraceFault
-        ensures { result ≡ fault_of (bad line self) }
-    {
-        TraceFault::Bad {
-            line,
-            column: self.column,
-            kind: self.kind.code(),
-        }
+/// What is wrong with a line, and in which column.
+pub(crate) type At = bk_text::At<Kind>;
+
+/// The same in the line of a number.
+pub(crate) fn on_line(line: u64, fault: At) -> TraceFault
+    ensures { result ≡ fault_of (bad line fault) }
+{
+    TraceFault::Bad {
+        line,
+        column: fault.column,
+        kind: fault.kind.code(),
     }
 }
 

@@ -7,11 +7,11 @@ ghost use Rattle.bk_trace.specs.Grammar.{trace_of};
 ghost use Rattle.bk_trace.specs.Faults.{fault_of, Gives, IsOff};
 ghost use Rattle.bk_trace.specs.Reading.{no_config, has_words, config_from, lines_at, lines_read, trace_at};
 
-use crate::fault::{At, Kind, TraceFault};
+use crate::fault::{At, Kind, TraceFault, on_line};
 use crate::line::{first_at, line_at};
 use crate::trace::Trace;
 use bk_base::{Config, Op};
-use bk_text::{Row, cut_line};
+use bk_text::{TextLine, cut_line};
 use std::alloc::{AllocError, Global};
 
 /// What begins a comment.
@@ -25,14 +25,14 @@ fn no_config() -> TraceFault
         column: 1,
         kind: Kind::Config,
     };
-    start.on_line(1)
+    on_line(1, start)
 }
 
 /// Whether a line has a word before its comment.
 fn has_words(line: &[u8]) -> bool
     ensures { result ≡ has_words line.now }
 {
-    Row::of(COMMENT, line).has_word()
+    TextLine::of(COMMENT, line).has_word()
 }
 
 /// Whether a line of a text has a word before its comment.
@@ -61,10 +61,10 @@ fn config_from(text: &[u8]) -> Result<(Config, u64, &[u8]), TraceFault>
     let mut line = 1;
     while !rest.is_empty() {
         let (front, after) = cut_line(rest);
-        match first_at(&mut Row::of(COMMENT, front)) {
+        match first_at(&mut TextLine::of(COMMENT, front)) {
             Ok(Some(config)) => return Ok((config, line + 1, after)),
             Ok(None) => (),
-            Err(fault) => return Err(fault.on_line(line)),
+            Err(fault) => return Err(on_line(line, fault)),
         }
         rest = after;
         line += 1;
@@ -100,9 +100,9 @@ fn operations(
     let mut line = first;
     while !rest.is_empty() {
         let (front, after) = cut_line(rest);
-        let found = match line_at(caches, operations.len(), &mut Row::of(COMMENT, front)) {
+        let found = match line_at(caches, operations.len(), &mut TextLine::of(COMMENT, front)) {
             Ok(found) => found,
-            Err(fault) => return Err(fault.on_line(line)),
+            Err(fault) => return Err(on_line(line, fault)),
         };
         keep(&mut operations, found)?;
         rest = after;

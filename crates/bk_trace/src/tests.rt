@@ -22,7 +22,8 @@ fn addr(value: u64) -> Result<Addr, Fail> {
 #[test]
 fn reads_values(rt: HostRuntime) -> Result<(), Fail> {
     let text =
-        b"# two caches\n\nconfig 2 0x4 2\r\n0\tS 0x40 0xfFffFFFFffffffff # all ones\n 1 UL 1096#tail\n0 EV 64\n1 L 0xFFFFFFFFF8\n00 US 0 18446744073709551615";
+        b"# two caches\n\nconfig 2 0x4 2\r\n0\tS 0x40 0xfFffFFFFffffffff # all ones\n 1 UL 1096#tail\n0 EV 64\n1 L 0xFFFFFFFFF8\n\
+        00 US 0 18446744073709551615";
     let trace = read_trace(rt.alloc(), text)
         .ok()
         .ok_or("the trace is read")?;

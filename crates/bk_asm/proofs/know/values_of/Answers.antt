@@ -12,4 +12,6 @@ pub returns-clause-few : goal.returns-clause-few
 returns-clause-few c =
     let names = map (λ name. (name.0.now, name.1)) c.value_names.result.now in
     let below : all_below (length c.value_names.result.now) names ≡ true = rw c.value_names.ensures.value c.value_names.ensures.below in
-    rw (← c.value_names.ensures.count) (if_some (λ s. s < 2 ^ length c.value_names.result.now) c.joined.result (λ s is. joined_below (length c.value_names.result.now) names 124 c.in_ok-values.field-0.now s below (sym c.joined.ensures ∙ is)))
+    rw (← c.value_names.ensures.count)
+    (if_some (λ s. s < 2 ^ length c.value_names.result.now) c.joined.result
+    (λ s is. joined_below (length c.value_names.result.now) names 124 c.in_ok-values.field-0.now s below (sym c.joined.ensures ∙ is)))

@@ -1,4 +1,4 @@
-use Rattle.bk_asm.proofs.PlacesAgain.{text_again}
+use Rattle.bk_asm.proofs.ImageAgain.{text_again}
 use Rattle.bk_asm.proofs.writing.canonical_text_again.Goals as goal
 
 pub returns : goal.returns

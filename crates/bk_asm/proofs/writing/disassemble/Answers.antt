@@ -1,6 +1,6 @@
 use Rattle.std.proofs.Common.{rules, ◌≡◌}
 use Rattle.bk_asm.specs.Writing.{spelling}
-use Rattle.bk_asm.proofs.PlacesAgain.{written_again}
+use Rattle.bk_asm.proofs.ImageAgain.{written_again}
 use Rattle.bk_asm.proofs.writing.disassemble.Goals as goal
 
 pub returns-clause-again : goal.returns-clause-again

@@ -14,14 +14,16 @@ loop-cache-preserved c =
       | then-is_invalidated w ↦ record {
         config = ap (λ (d : Directory). d.config) w.directory-is ∙ w.wipe_ways.ensures.config;
         state = ap (λ (d : Directory). contents_of d) w.directory-is ∙ w.wipe_ways.ensures.state
-            ∙ caches-more c.args.config c.loop-cache.cache (is_invalidated c.args.with_owner c.args.summary.now) (contents_of c.args.directory.now)
+            ∙ caches-more c.args.config c.loop-cache.cache (is_invalidated c.args.with_owner c.args.summary.now)
+            (contents_of c.args.directory.now)
             c.group_of-group.result c.tag_at-tag.result (contents_of c.loop-cache.directory)
             (sym c.is_invalidated.ensures ∙ w.if-is_invalidated.true) c.loop-cache.invariant.state;
       }
       | else-is_invalidated w ↦ record {
         config = ap (λ (d : Directory). d.config) w.directory-is ∙ c.loop-cache.invariant.config;
         state = ap (λ (d : Directory). contents_of d) w.directory-is ∙ c.loop-cache.invariant.state
-            ∙ caches-passed c.args.config c.loop-cache.cache (is_invalidated c.args.with_owner c.args.summary.now) (contents_of c.args.directory.now)
+            ∙ caches-passed c.args.config c.loop-cache.cache (is_invalidated c.args.with_owner c.args.summary.now)
+            (contents_of c.args.directory.now)
             c.group_of-group.result c.tag_at-tag.result (sym c.is_invalidated.ensures ∙ w.if-is_invalidated.false);
       }
     ]

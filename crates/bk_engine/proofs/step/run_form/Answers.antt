@@ -13,5 +13,6 @@ returns-clause-sound c =
 
 pub returns-clause-pops : goal.returns-clause-pops
 returns-clause-pops c =
-    popped_within c.args.config (record { core = c.args.core.now; directory = contents_of c.args.directory.now }) c.args.form c.pops-popped.result
+    popped_within c.args.config (record { core = c.args.core.now; directory = contents_of c.args.directory.now }) c.args.form
+    c.pops-popped.result
     (c.pops-popped.ensures (contents_of c.args.directory.now)) c.requires.sound

@@ -9,4 +9,4 @@ returns-clause-value c =
     let mask : List ℕ = to_le_bytes w64 (mask_of c.args.know_line.now.1) in
     let first : c.extend_from_slice.new.self.items ≡ c.args.bytes.now.items ++ place = search rules in
     let second : c.extend_from_slice-2.new.self.items ≡ c.extend_from_slice.new.self.items ++ mask = search rules in
-    second ∙ ap (λ (x : List ℕ). x ++ mask) first ∙ append_assoc c.args.bytes.now.items place mask
+    second ∙ ap (λ (bytes : List ℕ). bytes ++ mask) first ∙ append_assoc c.args.bytes.now.items place mask

@@ -5,4 +5,5 @@ use Rattle.bk_image.specs.Spelling.{word}
 use Rattle.bk_image.proofs.writing.push_words.Given as goal
 
 abbrev pub invariant-loop-instr : goal.invariant-loop-instr
-invariant-loop-instr l = (l.bytes.items ≡ l.initial.bytes.items ++ flat_map word (take l.instr-index l.instrs)) × AllByRecursion IsInRange (take l.instr-index l.instrs)
+invariant-loop-instr l = (l.bytes.items ≡ l.initial.bytes.items ++ flat_map word (take l.instr-index l.instrs))
+    × AllByRecursion IsInRange (take l.instr-index l.instrs)

@@ -17,4 +17,5 @@ pub returns-clause-short : goal.returns-clause-short
 returns-clause-short c = short c.args.bytes.now c.read.result (λ i. omega (arith, c.type_inv.bytes i)) c.read.ensures
 
 pub returns-clause-bad : goal.returns-clause-bad
-returns-clause-bad c = λ place h none. bad c.args.bytes.now c.read.result place (λ i. omega (arith, c.type_inv.bytes i)) c.read.ensures h none
+returns-clause-bad c =
+    λ place h none. bad c.args.bytes.now c.read.result place (λ i. omega (arith, c.type_inv.bytes i)) c.read.ensures h none

@@ -1,6 +1,6 @@
 use Rattle.std.proofs.Common.{◌≡◌, ℕ, ◌<◌, ◌≤◌}
 use Rattle.bk_system.specs.Channels.{queue, room, channel_count}
-use Rattle.bk_system.specs.Kept.{fill_place}
+use Rattle.bk_system.specs.Numbering.{fill_place}
 use Rattle.bk_system.proofs.sending.reserve_fills.Given as goal
 
 abbrev pub invariant-loop-to : goal.invariant-loop-to

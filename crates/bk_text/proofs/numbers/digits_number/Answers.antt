@@ -20,13 +20,15 @@ returns-then-digit-radix c =
 
 pub returns-in_err-checked_mul : goal.returns-in_err-checked_mul
 returns-in_err-checked_mul c =
-    let none = none_if_large_at c.args.radix c.args.most c.args.digits.now c.loop-byte.byte-index c.loop-byte.value c.requires (omega arith) c.loop-byte.invariant.1 (omega (arith, c.in_err-checked_mul.ensures)) in
+    let none = none_if_large_at c.args.radix c.args.most c.args.digits.now c.loop-byte.byte-index c.loop-byte.value c.requires (omega arith)
+    c.loop-byte.invariant.1 (omega (arith, c.in_err-checked_mul.ensures)) in
     cc
 
 pub returns-in_err-value : goal.returns-in_err-value
 returns-in_err-value c =
     let product : c.in_ok-checked_mul.field-0 ≡ c.loop-byte.value * c.args.radix = omega (arith, c.in_ok-checked_mul.ensures) in
-    let none = none_if_large_at c.args.radix c.args.most c.args.digits.now c.loop-byte.byte-index c.loop-byte.value c.requires (omega arith) c.loop-byte.invariant.1 (omega (arith, c.in_err-value.ensures)) in
+    let none = none_if_large_at c.args.radix c.args.most c.args.digits.now c.loop-byte.byte-index c.loop-byte.value c.requires (omega arith)
+    c.loop-byte.invariant.1 (omega (arith, c.in_err-value.ensures)) in
     cc
 
 pub loop-byte-preserved : goal.loop-byte-preserved

@@ -6,4 +6,5 @@ use Rattle.bk_text.proofs.numbers.digits_number.Given as goal
 
 abbrev pub invariant-loop-byte : goal.invariant-loop-byte
 invariant-loop-byte l =
-    (list_all (is_digit l.radix) (take l.byte-index l.digits) ≡ true) × (l.value ≡ digits_value l.radix (take l.byte-index l.digits)) × (l.value < 2 ^ 64)
+    (list_all (is_digit l.radix) (take l.byte-index l.digits) ≡ true) × (l.value ≡ digits_value l.radix (take l.byte-index l.digits))
+    × (l.value < 2 ^ 64)

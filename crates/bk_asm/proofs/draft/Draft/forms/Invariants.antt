@@ -5,6 +5,7 @@ use Rattle.bk_asm.proofs.draft.Draft.forms.Given as goal
 
 abbrev pub invariant-loop-statement : goal.invariant-loop-statement
 invariant-loop-statement l = record {
-  value : with_front l.forms.items (forms_at l.self.labels (drop l.statement-index l.self.statements)) ≡ forms_at l.self.labels l.self.statements;
+  value : with_front l.forms.items (forms_at l.self.labels (drop l.statement-index l.self.statements))
+      ≡ forms_at l.self.labels l.self.statements;
   count : length l.forms.items ≡ l.statement-index;
 }

@@ -7,4 +7,15 @@ invariant_of-result c =
     let p : c.len.result ≡ length c.self.inside.statements.items = omega arith in
     let same = ap (λ d. length d.statements) c.self.view_is in
     let lt : length c.self.inside.statements.items < 256 = omega (arith, same, c.requires) in
-    rw (c.in_ok-push.ensures.items, c.in_ok-knows.ensures) (statement_draft (record { statements = c.self.inside.statements.items; knows = c.self.inside.knows.items; labels = c.self.inside.labels; know = c.self.inside.know; waits = c.self.inside.waits }) c.args.statement c.len.result p c.self.invariant lt)
+    rw (
+      c.in_ok-push.ensures.items,
+      c.in_ok-knows.ensures,
+    )
+    (statement_draft (record {
+      statements = c.self.inside.statements.items;
+      knows = c.self.inside.knows.items;
+      labels = c.self.inside.labels;
+      know = c.self.inside.know;
+      waits = c.self.inside.waits;
+    }) c.args.statement c.len.result p
+    c.self.invariant lt)

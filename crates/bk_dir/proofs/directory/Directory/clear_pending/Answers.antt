@@ -1,6 +1,6 @@
 use Rattle.std.proofs.Common.{◌<◌, false, length, ap, arith}
-use Rattle.bk_dir.specs.Kept.{entries_of}
-use Rattle.bk_dir.proofs.Kept.{bits_of-set}
+use Rattle.bk_dir.specs.Lists.{entries_of}
+use Rattle.bk_dir.proofs.Lists.{bits_of-set}
 use Rattle.bk_dir.proofs.directory.Directory.clear_pending.Goals as goal
 
 pub returns-clause-state : goal.returns-clause-state

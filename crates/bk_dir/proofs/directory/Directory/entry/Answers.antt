@@ -1,5 +1,5 @@
 use Rattle.std.proofs.Common.{arith}
-use Rattle.bk_dir.proofs.Kept.{entries_of-item}
+use Rattle.bk_dir.proofs.Lists.{entries_of-item}
 use Rattle.bk_dir.proofs.directory.Directory.entry.Goals as goal
 
 pub returns-clause-value : goal.returns-clause-value

@@ -1,8 +1,8 @@
 use Rattle.std.proofs.Common.{ap, ◌∙◌, subst, sym, ◌*◌, List}
 use Rattle.bk_base.specs.Places.{InProfile}
-use Rattle.bk_dir.specs.Kept.{entries_of, bits_of, AreTags}
+use Rattle.bk_dir.specs.Lists.{entries_of, bits_of, AreTags}
 use Rattle.bk_dir.specs.declared.entry.Entry.{Entry}
-use Rattle.bk_dir.proofs.Kept.{entries_of-same, bits_of-same, tags-same, few_caches, few_ways}
+use Rattle.bk_dir.proofs.Lists.{entries_of-same, bits_of-same, tags-same, few_caches, few_ways}
 use Rattle.bk_dir.proofs.directory.Directory.make.Goals as goal
 
 pub invariant_of-result-clause-few_caches : goal.invariant_of-result-clause-few_caches
@@ -18,6 +18,7 @@ invariant_of-result-clause-tags c =
 
 pub returns-clause-state : goal.returns-clause-state
 returns-clause-state c =
-    let entries = ap entries_of (c.in_ok-entries.ensures.items_if_clones_equal (λ y same. same)) ∙ entries_of-same (c.config.inside.sets * 64) in
+    let entries = ap entries_of (c.in_ok-entries.ensures.items_if_clones_equal (λ y same. same))
+    ∙ entries_of-same (c.config.inside.sets * 64) in
     let pending = ap bits_of (c.in_ok-pending.ensures.items_if_clones_equal (λ y same. same)) ∙ bits_of-same c.config.inside.sets in
     λ i. record { entries = entries i; pending = pending i }

@@ -5,6 +5,6 @@ use Rattle.bk_dir.proofs.directory.Directory.others.Given as goal
 
 abbrev pub invariant-loop-cache : goal.invariant-loop-cache
 invariant-loop-cache l = record {
-  value : l.bits ≡ bits_below l.cache (is_other l.self.config (contents_of l.self) l.asked);
+  value : l.bits ≡ bits_below l.cache (is_other l.self.config (contents_of l.self) l.query);
   small : l.bits < 2 ^ l.cache;
 }

@@ -5,4 +5,4 @@ use Rattle.bk_dir.specs.Summaries.{owner_at}
 use Rattle.bk_dir.proofs.directory.Directory.owner.Given as goal
 
 abbrev pub invariant-loop-cache : goal.invariant-loop-cache
-invariant-loop-cache l = first_below l.cache (owner_at l.self.config (contents_of l.self) l.asked) ≡ None
+invariant-loop-cache l = first_below l.cache (owner_at l.self.config (contents_of l.self) l.query) ≡ None

@@ -10,6 +10,7 @@ use Rattle.bk_dir.proofs.directory.Directory.owner_way.Goals as goal
 
 pub returns-then-answers-clause-value : goal.returns-then-answers-clause-value
 returns-then-answers-clause-value c =
-    let same = ap (λ (e : Entry). holds e c.args.tag && is_owner_like e.state) c.entry.ensures.value in
-    sym (least_below-found c.args.self.now.config.ways c.loop-way.way (answers_at (contents_of c.args.self.now) c.args.cache c.args.set c.args.tag)
+    let same = ap (λ (entry : Entry). holds entry c.args.tag && is_owner_like entry.state) c.entry.ensures.value in
+    sym (least_below-found c.args.self.now.config.ways c.loop-way.way
+    (answers_at (contents_of c.args.self.now) c.args.cache c.args.set c.args.tag)
     (omega arith) c.loop-way.invariant (sym same ∙ sym c.answers.ensures ∙ c.if-answers.true))

@@ -1,5 +1,5 @@
 use Rattle.std.proofs.Common.{arith}
-use Rattle.bk_dir.proofs.Kept.{bits_of-item}
+use Rattle.bk_dir.proofs.Lists.{bits_of-item}
 use Rattle.bk_dir.proofs.directory.Directory.pending.Goals as goal
 
 pub returns : goal.returns

@@ -9,7 +9,8 @@ use Rattle.bk_dir.proofs.directory.Directory.shares.Goals as goal
 
 pub returns-then-is_sharer : goal.returns-then-is_sharer
 returns-then-is_sharer c =
-    let same = ap (λ (e : Entry). holds e c.args.tag && is_shared e.state) c.entry.ensures.value in
-    let least = least_below-found c.args.self.now.config.ways c.loop-way.way (shares_at (contents_of c.args.self.now) c.args.cache c.args.set c.args.tag)
+    let same = ap (λ (entry : Entry). holds entry c.args.tag && is_shared entry.state) c.entry.ensures.value in
+    let least = least_below-found c.args.self.now.config.ways c.loop-way.way
+    (shares_at (contents_of c.args.self.now) c.args.cache c.args.set c.args.tag)
     (omega arith) c.loop-way.invariant (sym same ∙ sym c.is_sharer.ensures ∙ c.if-is_sharer.true) in
     ap is_some (sym least)

@@ -1,6 +1,6 @@
 use Rattle.std.proofs.Common.{◌<◌, length, ap, arith, set, ◌∙◌}
-use Rattle.bk_dir.specs.Kept.{entries_of, bits_of, place_of}
-use Rattle.bk_dir.proofs.Kept.{entries_of-set}
+use Rattle.bk_dir.specs.Lists.{entries_of, bits_of, place_of}
+use Rattle.bk_dir.proofs.Lists.{entries_of-set}
 use Rattle.bk_dir.proofs.directory.Directory.write_entry.Goals as goal
 
 pub returns-clause-state : goal.returns-clause-state

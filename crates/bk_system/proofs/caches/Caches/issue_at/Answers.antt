@@ -1,43 +1,25 @@
-use Rattle.std.proofs.Common.{ℕ, ◌<◌, length, sym, subst, ◌∙◌, arith}
+use Rattle.std.proofs.Common.{ℕ, ◌<◌, refl, sym, subst}
 use Rattle.bk_base.specs.Places.{Shape}
 use Rattle.bk_lce.specs.CacheState.{CacheState}
 use Rattle.bk_lce.specs.CacheTable.{issue}
-use Rattle.bk_system.proofs.Banks.{own-item, own-set, caches-others, gives-along, within-along, completes-along}
+use Rattle.bk_system.proofs.CacheList.{own-here, own-after, call-told}
 use Rattle.bk_system.proofs.caches.Caches.issue_at.Goals as goal
 
 pub issue_at-requires : goal.issue_at-requires
 issue_at-requires c =
-    let own = own-item c.args.self.now.config c.args.self.now.arrays.items c.args.self.now.arrays.len c.args.cache c.index_mut-arrays.result.now c.args.self.now.own c.args.self.now.arrays.ok.0 (omega (arith, c.args.self.now.each, c.requires.cache)) c.index_mut-arrays.ensures.value in
+    let own = own-here c.args.self.now c.args.cache c.index_mut-arrays.result.now c.requires.cache c.index_mut-arrays.ensures.value in
     subst (λ (k : Shape). c.args.way < k.ways) (sym own.1) c.requires.way
 
 pub invariant_of-self : goal.invariant_of-self
-invariant_of-self c =
-    let l : c.args.cache < length c.args.self.now.arrays.items = omega (arith, c.args.self.now.arrays.ok.0, c.args.self.now.each, c.requires.cache) in
-    let own = own-item c.args.self.now.config c.args.self.now.arrays.items c.args.self.now.arrays.len c.args.cache c.index_mut-arrays.result.now c.args.self.now.own c.args.self.now.arrays.ok.0 (omega (arith, c.args.self.now.each, c.requires.cache)) c.index_mut-arrays.ensures.value in
-    record {
-      each = c.args.self.now.each;
-      own = own-set c.args.self.now.config c.args.self.now.arrays.items c.args.cache c.issue_at.new.self c.args.self.now.own (c.issue_at.ensures.number ∙ own.0) (c.issue_at.ensures.config ∙ own.1);
-    }
+invariant_of-self c = record {
+  each = c.args.self.now.each;
+  own = own-after c.args.self.now c.args.cache c.index_mut-arrays.result.now c.requires.cache c.index_mut-arrays.ensures.value
+      c.issue_at.new.self c.issue_at.ensures.number c.issue_at.ensures.config;
+}
 
-pub returns-clause-gives : goal.returns-clause-gives
-returns-clause-gives c =
-    let l : c.args.cache < length c.args.self.now.arrays.items = omega (arith, c.args.self.now.arrays.ok.0, c.args.self.now.each, c.requires.cache) in
-    let own = own-item c.args.self.now.config c.args.self.now.arrays.items c.args.self.now.arrays.len c.args.cache c.index_mut-arrays.result.now c.args.self.now.own c.args.self.now.arrays.ok.0 (omega (arith, c.args.self.now.each, c.requires.cache)) c.index_mut-arrays.ensures.value in
-    gives-along (λ (k : Shape) (n : CacheState) (number : ℕ). issue k n number c.args.op c.args.way) c.index_mut-arrays.result.now c.issue_at.new.self c.args.self.now.arrays.items c.args.self.now.config c.args.cache c.issue_at.result own l c.index_mut-arrays.ensures.value c.issue_at.ensures.gives
-
-pub returns-clause-others : goal.returns-clause-others
-returns-clause-others c =
-    let l : c.args.cache < length c.args.self.now.arrays.items = omega (arith, c.args.self.now.arrays.ok.0, c.args.self.now.each, c.requires.cache) in
-    caches-others c.args.self.now.config c.args.self.now.arrays.items c.args.cache c.issue_at.new.self l
-
-pub returns-clause-within : goal.returns-clause-within
-returns-clause-within c =
-    let l : c.args.cache < length c.args.self.now.arrays.items = omega (arith, c.args.self.now.arrays.ok.0, c.args.self.now.each, c.requires.cache) in
-    let own = own-item c.args.self.now.config c.args.self.now.arrays.items c.args.self.now.arrays.len c.args.cache c.index_mut-arrays.result.now c.args.self.now.own c.args.self.now.arrays.ok.0 (omega (arith, c.args.self.now.each, c.requires.cache)) c.index_mut-arrays.ensures.value in
-    within-along c.index_mut-arrays.result.now.config c.args.self.now.config c.issue_at.result own.1 c.issue_at.ensures.within
-
-pub returns-clause-own : goal.returns-clause-own
-returns-clause-own c =
-    let l : c.args.cache < length c.args.self.now.arrays.items = omega (arith, c.args.self.now.arrays.ok.0, c.args.self.now.each, c.requires.cache) in
-    let own = own-item c.args.self.now.config c.args.self.now.arrays.items c.args.self.now.arrays.len c.args.cache c.index_mut-arrays.result.now c.args.self.now.own c.args.self.now.arrays.ok.0 (omega (arith, c.args.self.now.each, c.requires.cache)) c.index_mut-arrays.ensures.value in
-    completes-along c.index_mut-arrays.result.now.number c.args.cache c.issue_at.result own.0 c.issue_at.ensures.own
+pub returns : goal.returns
+returns c =
+    let told = call-told c.args.self.now c.args.cache c.index_mut-arrays.result.now c.requires.cache c.index_mut-arrays.ensures.value
+    (λ (k : Shape) (cache : CacheState) (number : ℕ). issue k cache number c.args.op c.args.way) c.issue_at.new.self c.issue_at.result
+    c.issue_at.ensures.gives c.issue_at.ensures.within c.issue_at.ensures.own in
+    record { gives = told.gives; others = told.others; within = told.within; own = told.own; config = refl }

@@ -1,6 +1,6 @@
 use Rattle.std.proofs.Common.{◌≡◌, ℕ, vec_len}
 use Rattle.bk_lce.specs.CacheState.{opening}
-use Rattle.bk_system.specs.Kept.{caches_of, AreCaches}
+use Rattle.bk_system.specs.Numbering.{caches_of, AreCaches}
 use Rattle.bk_system.proofs.caches.Caches.make.Given as goal
 
 abbrev pub invariant-loop-cache : goal.invariant-loop-cache

@@ -13,7 +13,9 @@ pub returns-then-channel-len-clause-within : goal.returns-then-channel-len-claus
 returns-then-channel-len-clause-within c =
     let l : c.args.channel < length c.args.self.now.queues.items = omega (arith, c.args.self.now.queues.ok.0) in
     within-first c.args.self.now.config c.index-queue.result.now.items c.front.result c.front.ensures.item
-    (within-item c.args.self.now.config c.args.self.now.queues.items c.args.channel c.index-queue.result.now l c.index-queue.ensures c.args.self.now.within)
+    (within-item c.args.self.now.config c.args.self.now.queues.items c.args.channel c.index-queue.result.now l c.index-queue.ensures
+    c.args.self.now.within)
 
 pub returns-else-channel-len-clause-value : goal.returns-else-channel-len-clause-value
-returns-else-channel-len-clause-value c = sym (ap (λ (ms : List Row). slice_get ms 0) (queue-past c.args.self.now c.args.channel (omega arith)))
+returns-else-channel-len-clause-value c =
+    sym (ap (λ (ms : List Row). slice_get ms 0) (queue-past c.args.self.now c.args.channel (omega arith)))

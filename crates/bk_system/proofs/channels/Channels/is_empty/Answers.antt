@@ -10,10 +10,12 @@ pub returns-then-not-is_empty : goal.returns-then-not-is_empty
 returns-then-not-is_empty c =
     let l : c.loop-channel.channel < vec_len c.args.self.now.queues = omega arith in
     sym (all_below-fails _ c.loop-channel.channel (λ k. is_nil (queue c.args.self.now k)) l
-    (queue-nil c.args.self.now c.loop-channel.channel c.index-queue.result.now c.is_empty.result l c.index-queue.ensures c.is_empty.ensures ∙ c.if-not-is_empty.true))
+    (queue-nil c.args.self.now c.loop-channel.channel c.index-queue.result.now c.is_empty.result l c.index-queue.ensures c.is_empty.ensures
+    ∙ c.if-not-is_empty.true))
 
 pub loop-channel-preserved : goal.loop-channel-preserved
 loop-channel-preserved c =
     let l : c.loop-channel.channel < vec_len c.args.self.now.queues = omega arith in
     all_below-more c.loop-channel.channel (λ k. is_nil (queue c.args.self.now k)) c.loop-channel.invariant
-    (queue-nil c.args.self.now c.loop-channel.channel c.index-queue.result.now c.is_empty.result l c.index-queue.ensures c.is_empty.ensures ∙ c.if-not-is_empty.false)
+    (queue-nil c.args.self.now c.loop-channel.channel c.index-queue.result.now c.is_empty.result l c.index-queue.ensures c.is_empty.ensures
+    ∙ c.if-not-is_empty.false)

@@ -6,5 +6,5 @@ use Rattle.bk_system.proofs.channels.Channels.make.Given as goal
 abbrev pub invariant-loop : goal.invariant-loop
 invariant-loop l = record {
   count : vec_len l.queues ≡ l.counter;
-  empty : (k : ℕ) → at {Y = List Row} (λ q. q.items) [] l.queues.items k ≡ [];
+  empty : (number : ℕ) → at {Y = List Row} (λ q. q.items) [] l.queues.items number ≡ [];
 }

@@ -14,13 +14,16 @@ invariant_of-self c =
     record {
       within = within-set c.args.self.now.config c.args.self.now.queues.items c.args.channel c.pop_front.new.self l c.args.self.now.within
           (subst (EachWithin c.args.self.now.config) (sym c.pop_front.ensures.rest)
-          (within-rest c.args.self.now.config c.index_mut-queue.result.now.items (within-item c.args.self.now.config c.args.self.now.queues.items c.args.channel c.index_mut-queue.result.now l c.index_mut-queue.ensures.value c.args.self.now.within)));
+          (within-rest c.args.self.now.config c.index_mut-queue.result.now.items
+          (within-item c.args.self.now.config c.args.self.now.queues.items c.args.channel c.index_mut-queue.result.now l
+          c.index_mut-queue.ensures.value c.args.self.now.within)));
     }
 
 pub returns-clause-head : goal.returns-clause-head
 returns-clause-head c =
     let was = queue-item c.args.self.now c.args.channel c.index_mut-queue.result.now c.requires c.index_mut-queue.ensures.value in
-    front-first c.pop_front.result c.index_mut-queue.result.now.items c.pop_front.new.self.items c.index_mut-queue.result.now.len _ _ c.pop_front.ensures.items c.index_mut-queue.result.now.ok.0 c.pop_front.ensures.cases
+    front-first c.pop_front.result c.index_mut-queue.result.now.items c.pop_front.new.self.items c.index_mut-queue.result.now.len _ _
+    c.pop_front.ensures.items c.index_mut-queue.result.now.ok.0 c.pop_front.ensures.cases
     ∙ ap (λ (ms : List Row). slice_get ms 0) (sym was)
 
 pub returns-clause-rest : goal.returns-clause-rest
@@ -37,5 +40,6 @@ returns-clause-own c =
 pub returns-clause-grows : goal.returns-clause-grows
 returns-clause-grows c =
     let was = room-item c.args.self.now c.args.channel c.index_mut-queue.result.now c.requires c.index_mut-queue.ensures.value in
-    let more : room c.args.self.now c.args.channel ≤ deque_capacity c.pop_front.new.self - deque_len c.pop_front.new.self = omega (arith, was, c.pop_front.ensures.len, c.pop_front.ensures.capacity) in
+    let more : room c.args.self.now c.args.channel ≤ deque_capacity c.pop_front.new.self - deque_len c.pop_front.new.self =
+    omega (arith, was, c.pop_front.ensures.len, c.pop_front.ensures.capacity) in
     room-kept c.args.self.now _ c.args.channel c.pop_front.new.self refl c.requires more

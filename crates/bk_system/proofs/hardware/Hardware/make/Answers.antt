@@ -1,5 +1,5 @@
 use Rattle.std.proofs.Common.{ap, ◌∙◌}
-use Rattle.bk_system.specs.Kept.{fills_of}
+use Rattle.bk_system.specs.Numbering.{fills_of}
 use Rattle.bk_system.proofs.Fills.{fills-none}
 use Rattle.bk_system.proofs.hardware.Hardware.make.Goals as goal
 

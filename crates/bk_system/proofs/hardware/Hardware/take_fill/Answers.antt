@@ -5,12 +5,12 @@ use Rattle.bk_base.specs.Tables.{put}
 use Rattle.bk_msg.specs.declared.row.Row.{Row}
 use Rattle.bk_lce.specs.CacheState.{CacheState}
 use Rattle.bk_lce.specs.CacheTable as table
-use Rattle.bk_system.specs.Banks.{states_of}
+use Rattle.bk_system.specs.CacheStates.{states_of}
 use Rattle.bk_system.specs.Channels.{queue}
 use Rattle.bk_system.specs.Systems.{state_of}
-use Rattle.bk_system.specs.Events.{takes, without_fill, fill_taken}
-use Rattle.bk_system.specs.Kept.{fill_place}
-use Rattle.bk_system.specs.Rooms.{with_step}
+use Rattle.bk_system.specs.Events.{cache_row, without_fill, fill_taken}
+use Rattle.bk_system.specs.Numbering.{fill_place}
+use Rattle.bk_system.specs.EventCalls.{with_step}
 use Rattle.bk_system.proofs.CacheRows.{fill-row, fill-popped, caches-kept, took}
 use Rattle.bk_system.proofs.hardware.Hardware.take_fill.Goals as goal
 
@@ -25,9 +25,13 @@ conclude-requires-clause-room c = record {
 pub returns-in-Err-clause-happens : goal.returns-in-Err-clause-happens
 returns-in-Err-clause-happens c =
     let s = state_of c.args.self.now in (
-      ap (takes (without_fill s c.args.to c.args.from) c.args.to) (fill-row c.args.self.now.config s c.args.to c.args.from c.args.message c.requires.to c.requires.from c.requires.head
-          ∙ ap (λ (k : Shape). table.fill k (s.caches c.args.to) c.args.to c.args.message) (sym c.args.self.now.caches_config) ∙ c.in-Err.ensures.gives.0),
-      ap (λ (g : ℕ → CacheState). record s { caches = g }) (caches-kept (states_of c.args.self.now.caches) (states_of c.fill.new.self) c.args.to c.fill.ensures.others c.in-Err.ensures.gives.1),
+      ap (cache_row (without_fill s c.args.to c.args.from) c.args.to)
+          (fill-row c.args.self.now.config s c.args.to c.args.from c.args.message c.requires.to c.requires.from c.requires.head
+          ∙ ap (λ (k : Shape). table.fill k (s.caches c.args.to) c.args.to c.args.message) (sym c.args.self.now.caches_config)
+          ∙ c.in-Err.ensures.gives.0),
+      ap (λ (g : ℕ → CacheState). record s { caches = g })
+          (caches-kept (states_of c.args.self.now.caches) (states_of c.fill.new.self) c.args.to c.fill.ensures.others
+          c.in-Err.ensures.gives.1),
     )
 
 pub returns-in-Ok-clause-happens : goal.returns-in-Ok-clause-happens
@@ -35,12 +39,18 @@ returns-in-Ok-clause-happens c =
     let s = state_of c.args.self.now in
     let to : c.args.to < 8 = omega (arith, c.requires.to, c.args.self.now.few_caches) in
     let from : c.args.from < 8 = omega (arith, c.requires.from, c.args.self.now.few_caches) in
-    let popped = fill-popped (queue c.args.self.now.fills) (queue c.pop.new.self) c.args.to c.args.from c.fill_place.result to from c.fill_place.ensures.value c.pop.ensures.rest in
-    took s (state_of c.conclude.new.self) c.args.to (fill_taken c.args.self.now.config s c.args.to c.args.from) (states_of c.fill.new.self) s.command
+    let popped = fill-popped (queue c.args.self.now.fills) (queue c.pop.new.self) c.args.to c.args.from c.fill_place.result to from
+    c.fill_place.ensures.value c.pop.ensures.rest in
+    took s (state_of c.conclude.new.self) c.args.to (fill_taken c.args.self.now.config s c.args.to c.args.from)
+    (states_of c.fill.new.self) s.command
     (put s.fill c.args.to (put (s.fill c.args.to) c.args.from (drop 1 (s.fill c.args.to c.args.from))))
     (states_of c.fill.new.self c.args.to) c.in-Ok.step.sent c.in-Ok.step.done c.in-Ok.step.way c.conclude.new.self.sent.items
     (fill-row c.args.self.now.config s c.args.to c.args.from c.args.message c.requires.to c.requires.from c.requires.head
-    ∙ ap (λ (k : Shape). table.fill k (s.caches c.args.to) c.args.to c.args.message) (sym c.args.self.now.caches_config) ∙ c.in-Ok.ensures.gives)
+    ∙ ap (λ (k : Shape). table.fill k (s.caches c.args.to) c.args.to c.args.message) (sym c.args.self.now.caches_config)
+    ∙ c.in-Ok.ensures.gives)
     c.fill.ensures.others
-    (c.conclude.ensures.state ∙ ap (λ (f : ℕ → ℕ → List Row). with_step (record s { caches = states_of c.fill.new.self; fill = f }) c.args.to c.in-Ok.step.sent c.in-Ok.step.done) popped)
+    (c.conclude.ensures.state
+    ∙ ap (λ (f : ℕ → ℕ → List Row). with_step (record s { caches = states_of c.fill.new.self; fill = f }) c.args.to
+    c.in-Ok.step.sent
+    c.in-Ok.step.done) popped)
     c.conclude.ensures.sent

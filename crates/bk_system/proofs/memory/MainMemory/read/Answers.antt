@@ -8,4 +8,5 @@ use Rattle.bk_system.proofs.memory.MainMemory.read.Goals as goal
 pub returns : goal.returns
 returns c =
     c.block-2.ensures ∙ ap (λ (words : List ℕ). Block MEMORY ENGINE (block_start c.args.addr) words)
-    (words-read c.args.self.now c.args.addr c.block.result (c.block.ensures.value ∙ ap (λ (b : ℕ). block_in c.args.self.now b) c.block_of.ensures.value) c.block.ensures.eight)
+    (words-read c.args.self.now c.args.addr c.block.result (c.block.ensures.value
+    ∙ ap (λ (b : ℕ). block_in c.args.self.now b) c.block_of.ensures.value) c.block.ensures.eight)

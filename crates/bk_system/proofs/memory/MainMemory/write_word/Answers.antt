@@ -11,8 +11,10 @@ returns-in-Ok-clause-ok c =
     (c.block-words.ensures.value ∙ ap (λ (b : ℕ). block_in c.args.self.now b) c.block_of-number.ensures.value)
     c.value-aligned.ensures.range.aligned c.block-words.ensures.eight
     (λ q. c.in-Ok.ensures.updates.0 q
-    ∙ ap (λ (b : ℕ). cond (is_at (nat_cmp b) q) (Some (set c.block-words.result c.word_of.result c.args.word)) (get nat_cmp c.args.self.now.blocks q)) c.block_of-number.ensures.value
-    ∙ ap (λ (j : ℕ). cond (is_at (nat_cmp (block_of c.args.addr)) q) (Some (set c.block-words.result j c.args.word)) (get nat_cmp c.args.self.now.blocks q)) c.word_of.ensures.value)
+    ∙ ap (λ (b : ℕ). cond (is_at (nat_cmp b) q) (Some (set c.block-words.result c.word_of.result c.args.word))
+    (get nat_cmp c.args.self.now.blocks q)) c.block_of-number.ensures.value
+    ∙ ap (λ (j : ℕ). cond (is_at (nat_cmp (block_of c.args.addr)) q) (Some (set c.block-words.result j c.args.word))
+    (get nat_cmp c.args.self.now.blocks q)) c.word_of.ensures.value)
 
 pub returns-in-Err-clause-err : goal.returns-in-Err-clause-err
 returns-in-Err-clause-err c = words-same c.args.self.now _ c.in-Err.ensures.err

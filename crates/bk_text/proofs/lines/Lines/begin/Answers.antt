@@ -2,7 +2,7 @@ use Rattle.std.proofs.Common.{◌<◌, ◌==◌, ◌∙◌, length, sym, arith}
 use Rattle.std.proofs.lemmas.Grind.{common_steps}
 use Rattle.std.proofs.lemmas.List.{append-nil}
 use Rattle.std.specs.List.{position_or_len}
-use Rattle.bk_text.specs.Rows.{words_from}
+use Rattle.bk_text.specs.LineWords.{words_from}
 use Rattle.bk_text.specs.Items.{line_items}
 use Rattle.bk_text.proofs.Cuts.{items-first, items-last}
 use Rattle.bk_text.proofs.lines.Lines.begin.Goals as goal

@@ -13,13 +13,16 @@ pub returns-clause-value : goal.returns-clause-value
 returns-clause-value c =
     let t = c.self.inside in
     let within : c.args.cache < t.config.caches = rw (ap (λ p. p.config.caches) c.self.view_is) c.requires in
-    let at = index-at (λ ops. ops.items) t.by_cache.items t.config.caches t.lines.items c.self.invariant.1 c.args.cache c.index.result.now within c.index.ensures in
+    let at = index-at (λ ops. ops.items) t.by_cache.items t.config.caches t.lines.items c.self.invariant.1 c.args.cache c.index.result.now
+    within c.index.ensures in
     cc
 
 pub returns-clause-few : goal.returns-clause-few
 returns-clause-few c =
     let t = c.self.inside in
     let within : c.args.cache < t.config.caches = rw (ap (λ p. p.config.caches) c.self.view_is) c.requires in
-    let at = index-at (λ ops. ops.items) t.by_cache.items t.config.caches t.lines.items c.self.invariant.1 c.args.cache c.index.result.now within c.index.ensures in
-    let few : length c.index.result.now.items ≤ 10000 = rw at (omega (arith, length-operations_of c.args.cache t.lines.items, c.self.invariant.0.few)) in
+    let at = index-at (λ ops. ops.items) t.by_cache.items t.config.caches t.lines.items c.self.invariant.1 c.args.cache c.index.result.now
+    within c.index.ensures in
+    let few : length c.index.result.now.items ≤ 10000 =
+    rw at (omega (arith, length-operations_of c.args.cache t.lines.items, c.self.invariant.0.few)) in
     rw c.deref.ensures.value few

@@ -1,0 +1,50 @@
+ghost use Rattle.std.specs.Prelude.{◌≡◌, ◌*◌, ◌<◌, ◌≤◌, vec_len};
+ghost use Rattle.bk_lce.specs.Lists.{HasWay, AreComplete};
+
+use crate::line::{InProgress, Line};
+use arrayvec::ArrayVec;
+use bk_base::Config;
+
+/// All of a cache but its policy: its lines, their recency, and the operation that it has begun. Contracts see what it
+/// holds, as `state_of` tells, with its configuration and its number.
+#[derive(Drop)]
+pub struct CacheArrays {
+    pub(crate) config: Config,
+    /// The number of the cache, below the number of caches.
+    pub(crate) number: u8,
+    /// By set and way, with room for eight ways in each set.
+    pub(crate) lines: Vec<Line>,
+    /// By set: its ways, most recently used first.
+    pub(crate) recency: Vec<ArrayVec<u8, 8>>,
+    pub(crate) busy: Option<InProgress>,
+    ghost few_caches: { config.caches ≤ 8 },
+    ghost some_ways: { 1 ≤ config.ways },
+    ghost few_ways: { config.ways ≤ 8 },
+    ghost numbered: { number < config.caches },
+    ghost lines_each: { vec_len lines ≡ config.sets * 8 },
+    ghost recency_each: { vec_len recency ≡ config.sets },
+    ghost has_way: { HasWay config busy },
+    ghost complete: { AreComplete config recency.items },
+}
+
+impl CacheArrays {
+    ghost use Rattle.std.specs.Prelude.{IfSome, is_some};
+    ghost use Rattle.bk_lce.specs.CacheArrays.{state_of};
+
+    /// The operation in progress.
+    #[tactic(auto, unfolding(crate::specs::CacheArrays::state_of))]
+    pub(crate) fn in_progress(&self) -> Option<InProgress>
+        ensures value { result ≡ (state_of self.now).busy }
+        ensures within { IfSome result (λ busy. busy.way < self.now.config.ways) }
+    {
+        self.busy
+    }
+
+    /// Whether the cache has an operation in progress.
+    #[tactic(auto, unfolding(crate::specs::CacheArrays::state_of))]
+    pub fn busy(&self) -> bool
+        ensures { result ≡ is_some (state_of self.now).busy }
+    {
+        self.busy.is_some()
+    }
+}

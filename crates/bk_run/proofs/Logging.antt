@@ -1,0 +1,43 @@
+-- A log that is made one event at a time.
+use Rattle.std.proofs.Common.{◌≡◌, ℕ, ◌+◌, ◌<◌, List, ◌++◌, ap, sym, ◌∙◌, length, get_or, drop, append_assoc}
+use Rattle.std.proofs.Common.{take, flat_map, Option, Some, arith}
+use Rattle.std.proofs.lemmas.Grind.{common_steps}
+use Rattle.bk_base.specs.Places.{Shape}
+use Rattle.bk_isa.specs.declared.form.Form.{Form}
+use Rattle.bk_msg.specs.declared.row.Row.{Row}
+use Rattle.bk_system.specs.declared.event.Event.{Event}
+use Rattle.bk_system.specs.State.{State}
+use Rattle.bk_system.specs.Events.{Happening, row}
+use Rattle.bk_system.specs.Runs.{after}
+use Rattle.bk_run.specs.Log.{ran_text, row_text, log_from}
+use Rattle.bk_run.proofs.Scheduling.{drop-here}
+
+module _ (k config : Shape) (program : List Form) (events : List Event) (i : ℕ) (event : Event) (s later : State) where
+  -- what was logged before the event and what is logged from it on, and the same for the next one
+  pub log-next : (out next total : List ℕ) → i < length events → event ≡ get_or events i event → config ≡ k
+      → later ≡ after config program s event
+      → next ≡ out ++ row_text event (row config program s event) → out ++ log_from k program s (drop i events) ≡ total
+      → next ++ log_from k program later (drop (i + 1) events) ≡ total
+  log-next out next total l e c h logged so_far =
+      let rest = drop (i + 1) events in
+      let state : later ≡ after k program s event = h ∙ ap (λ (shape : Shape). after shape program s event) c in
+      let text : row_text event (row config program s event) ≡ row_text event (row k program s event) =
+      ap (λ (shape : Shape). row_text event (row shape program s event)) c in
+      let here : log_from k program s (drop i events) ≡ row_text event (row k program s event)
+      ++ log_from k program (after k program s event) rest = ap (log_from k program s) (drop-here events i event l e) in
+      ap (λ (x : List ℕ). x ++ log_from k program later rest) (logged ∙ ap (λ (x : List ℕ). out ++ x) text)
+      ∙ append_assoc out (row_text event (row k program s event)) (log_from k program later rest)
+      ∙ ap (λ (x : State). out ++ (row_text event (row k program s event) ++ log_from k program x rest)) state
+      ∙ ap (λ (x : List ℕ). out ++ x) (sym here) ∙ so_far
+
+-- the lines of one more message
+pub lines-more : (f : Row → List ℕ) (xs : List Row) (i : ℕ) (m : Row) (was out next : List ℕ) → i < length xs
+    → m ≡ get_or xs i m
+    → out ≡ was ++ flat_map f (take i xs) → next ≡ out ++ f m → next ≡ was ++ flat_map f (take (i + 1) xs)
+lines-more f xs i m was out next l e before now = grind (arith, common_steps)
+
+-- what is written of an event that ran is the text of its row
+pub text-ran : (event : Event) (o : Option Happening) (s : State) (sent written : List Row)
+    → o ≡ Some (record { state = s; sent = sent })
+    → written ≡ sent → ran_text event written ≡ row_text event o
+text-ran event o s sent written e same = ap (ran_text event) same ∙ ap (row_text event) (sym e)

@@ -1,8 +1,0 @@
-use Rattle.std.proofs.Common.{◌≡◌, true}
-use Rattle.bk_base.specs.Counting.{all_below, is_nil}
-use Rattle.bk_system.specs.Channels.{queue}
-use Rattle.bk_system.specs.Kept.{fills_of}
-use Rattle.bk_system.proofs.rest.are_empty_to.Given as goal
-
-abbrev pub invariant-loop-from : goal.invariant-loop-from
-invariant-loop-from l = all_below l.from (λ from. is_nil (fills_of (queue l.fills) l.to from)) ≡ true

@@ -1,0 +1,30 @@
+-- The parts of a system by their numbers: its caches, the channels between them, and how many operations each cache has completed.
+use Rattle.std.specs.Prelude.{◌≡◌, ℕ, ◌+◌, ◌*◌, ◌<◌, ◌&&◌, nat_lt, if◌then◌else◌, List, [], Some, slice_get, slice_index, length}
+use Rattle.std.specs.Option.{option_map_or}
+use Rattle.bk_base.specs.Places.{Shape}
+use Rattle.bk_base.specs.declared.op.Done.{Done}
+use Rattle.bk_msg.specs.declared.row.Row.{Row}
+use Rattle.bk_lce.specs.declared.cache_arrays.CacheArrays.{CacheArrays}
+use Rattle.bk_lce.specs.CacheState.{CacheState, opening}
+use Rattle.bk_lce.specs.CacheArrays as caches
+use Rattle.bk_system.specs.Runs.{completed_by}
+
+-- the caches of a list, by number
+unfoldable pub caches_of : Shape → List CacheArrays → ℕ → CacheState
+caches_of k xs c = option_map_or caches.state_of (slice_get xs c) (opening k)
+
+-- each cache has its place as its number, and the configuration
+abbrev pub AreCaches : Shape → List CacheArrays → Type 0
+AreCaches k xs = (c : ℕ) (x : CacheArrays) → slice_get xs c ≡ Some x → (x.number ≡ c) × (x.config ≡ k)
+
+-- the place of the fill channel to a cache from another, with room for eight senders
+abbrev pub fill_place : ℕ → ℕ → ℕ
+fill_place to from = to * 8 + from
+
+-- the fill channels, by receiver and sender
+unfoldable pub fills_of : (ℕ → List Row) → ℕ → ℕ → List Row
+fills_of channel to from = if nat_lt to 8 && nat_lt from 8 then channel (fill_place to from) else []
+
+-- how many entries each cache has in the history
+abbrev pub AreCounts : ℕ → List ℕ → List Done → Type 0
+AreCounts n counts history = (c : ℕ) → c < n → slice_index counts c ≡ length (completed_by c history)
