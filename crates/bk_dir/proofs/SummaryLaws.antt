@@ -1,6 +1,6 @@
 -- The laws of a summary, from those of the least number below a count.
 use Rattle.std.proofs.Common.{◌≡◌, ◌≢◌, inl, inr, ℕ, ◌<◌, true, false, not, eqb, Option, Some, None, refl, ap, sym, ◌∙◌, subst, arith}
-use Rattle.std.specs.Prelude.{◌&&◌, MatchOption, is_some, unwrap_or}
+use Rattle.std.specs.Prelude.{◌&&◌, IfSome, MatchOption, is_some, unwrap_or}
 use Rattle.std.proofs.lemmas.Bool.{and_parts, and_from, and_cases, cases_eq, eqb-true, eq-eqb, ne_eqb, not-true, both_ways, eqb-false}
 use Rattle.bk_base.specs.Places.{Shape}
 use Rattle.bk_base.specs.States.{is_readable, is_owner_like}
@@ -145,6 +145,22 @@ owner-says k d query (Some at) e =
 
 pub owner-law : (k : Shape) (d : Contents) (query : Query) → OwnerSays k d query (summary k d query)
 owner-law k d query = owner-says k d query (owner k d query) refl
+
+-- the numbers of an owner
+owner-bounds : (k : Shape) (d : Contents) (query : Query) (answer : Option (ℕ × ℕ)) → owner k d query ≡ answer
+    → IfSome answer (λ at. (at.0 < k.caches) × (at.1 < k.ways)) × IfSome answer (λ at. at.0 ≢ query.cache)
+owner-bounds k d query None e = (tt, tt)
+owner-bounds k d query (Some at) e =
+    let found = (owner-says k d query (Some at) e).0 in
+    ((found.cache_within, found.way_within), found.is_other)
+
+pub owner-within : (k : Shape) (d : Contents) (query : Query) (answer : Option (ℕ × ℕ)) → answer ≡ owner k d query
+    → IfSome answer (λ at. (at.0 < k.caches) × (at.1 < k.ways))
+owner-within k d query answer e = (owner-bounds k d query answer (sym e)).0
+
+pub owner-other : (k : Shape) (d : Contents) (query : Query) (answer : Option (ℕ × ℕ)) → answer ≡ owner k d query
+    → IfSome answer (λ at. at.0 ≢ query.cache)
+owner-other k d query answer e = (owner-bounds k d query answer (sym e)).1
 
 -- OTHERS
 

@@ -4,4 +4,4 @@ use Rattle.bk_dir.specs.Contents.{Contents}
 use Rattle.bk_dir.specs.Lists.{entries_of, bits_of}
 
 abbrev pub contents_of : Directory → Contents
-contents_of d = record { entries = entries_of d.entries.items; pending = bits_of d.pending.items }
+contents_of d = record { entries = entries_of d.segments.items; pending = bits_of d.pending }

@@ -1,22 +1,28 @@
--- What a directory stands for, of the lists that it keeps. An entry has its place by set, cache and way, with room for
--- eight caches and eight ways in each set.
-use Rattle.std.specs.Prelude.{ℕ, ◌+◌, ◌*◌, ◌<◌, Bool, ◌&&◌, nat_lt, if◌then◌else◌, List, slice_index_or, false}
-use Rattle.bk_base.specs.Places.{Shape, tag_limit}
+-- What a directory stands for, of what it keeps: a segment for each cache and set, with room for eight caches in each set,
+-- and the pending bits in one word.
+use Rattle.std.specs.Prelude.{ℕ, ◌+◌, ◌*◌, Bool, nat_lt, if◌then◌else◌, List, [], slice_index_or}
+use Rattle.bk_base.specs.Places.{Shape}
 use Rattle.bk_dir.specs.declared.entry.Entry.{Entry}
 use Rattle.bk_dir.specs.Contents.{empty_entry}
+use Rattle.bk_dir.specs.Segments.{number_of, field_at, entry_in, IsField}
+use Rattle.bk_dir.specs.Summaries.{has_bit}
 
--- the place of an entry
-abbrev pub place_of : ℕ → ℕ → ℕ → ℕ
-place_of c set w = set * 64 + c * 8 + w
+-- the place of a segment
+abbrev pub place_of : ℕ → ℕ → ℕ
+place_of c set = set * 8 + c
 
--- the entries of a list, by cache, set and way
-unfoldable pub entries_of : List Entry → ℕ → ℕ → ℕ → Entry
-entries_of xs c set w = if nat_lt c 8 && nat_lt w 8 then slice_index_or xs (place_of c set w) empty_entry else empty_entry
+-- the bits of a way
+abbrev pub field_in : List (List ℕ) → ℕ → ℕ → ℕ
+field_in segments i w = field_at (number_of (slice_index_or segments i [])) w
 
--- the pending bits of a list, by way group
-unfoldable pub bits_of : List Bool → ℕ → Bool
-bits_of xs g = slice_index_or xs g false
+-- the entries of segments, by cache, set and way
+unfoldable pub entries_of : List (List ℕ) → ℕ → ℕ → ℕ → Entry
+entries_of segments c set w = if nat_lt c 8 then entry_in (field_in segments (place_of c set) w) else empty_entry
 
--- each entry's tag is one of a block
-abbrev pub AreTags : Shape → List Entry → Type 0
-AreTags k xs = (i : ℕ) → (slice_index_or xs i empty_entry).tag < tag_limit k
+-- the pending bits of a word, by way group
+unfoldable pub bits_of : ℕ → ℕ → Bool
+bits_of word g = has_bit word g
+
+-- each field of the segments is one that its way may have
+abbrev pub AreFields : Shape → List (List ℕ) → Type 0
+AreFields k segments = (i w : ℕ) → IsField k w (field_in segments i w)

@@ -1,42 +1,44 @@
-ghost use Rattle.std.specs.Prelude.{◌≡◌, ◌+◌, ◌*◌, ◌<◌, ◌≤◌, true, false, vec_len, IfOk};
+ghost use Rattle.std.specs.Prelude.{◌≡◌, ◌+◌, ◌*◌, ◌^◌, ◌<◌, ◌≤◌, true, false, vec_len, IfOk};
 ghost use Rattle.bk_base.specs.Places.{tag_limit};
-ghost use Rattle.bk_dir.specs.Lists.{AreTags, place_of};
+ghost use Rattle.bk_dir.specs.Lists.{AreFields, place_of};
 
 use crate::entry::Entry;
+use crate::segment::{SEGMENT_WORDS, entry_in, field, field_of, words_of, write_field};
 use bk_base::{Coh, Config};
 use std::alloc::{AllocError, Global};
 
-/// How far apart the entries of two sets stand.
-const SET_STRIDE: usize = 64;
-/// How far apart the entries of two caches stand, within a set.
-const CACHE_STRIDE: usize = 8;
+/// How far apart the segments of two sets stand: a set has room for eight caches.
+const SET_STRIDE: usize = 8;
 
 /// A directory by duplicate tags: it has an entry for each way of each cache, and a pending bit for each way group.
 /// Contracts see what it holds, as `contents_of` tells, and its configuration.
 #[derive(Drop)]
 pub struct Directory {
     pub(crate) config: Config,
-    /// By set, cache and way, with room for eight caches and eight ways in each set.
-    entries: Vec<Entry>,
-    /// By way group.
-    pending: Vec<bool>,
+    /// By set * 8 + cache, so that what the caches have of one set stands together.
+    segments: Vec<[u64; 5]>,
+    /// By way group, a bit each, group 0 in the lowest.
+    pending: u64,
     ghost few_caches: { config.caches ≤ 8 },
     ghost few_ways: { config.ways ≤ 8 },
-    ghost entries_each: { vec_len entries ≡ config.sets * 64 },
-    ghost pending_each: { vec_len pending ≡ config.sets },
-    ghost tags: { AreTags config entries.items },
+    ghost few_sets: { config.sets ≤ 64 },
+    ghost segments_each: { vec_len segments ≡ config.sets * 8 },
+    ghost fields: { AreFields config segments.items },
+    ghost pending_each: { pending < 2 ^ config.sets },
 }
 
-/// The place of an entry in the list.
-fn place_of(cache: u8, set: u8, way: u8) -> usize
-    ensures { result ≡ place_of cache set way }
+/// The place of a segment in the list.
+fn place_of(cache: u8, set: u8) -> usize
+    ensures { result ≡ place_of cache set }
 {
-    set as usize * SET_STRIDE + cache as usize * CACHE_STRIDE + way as usize
+    set as usize * SET_STRIDE + cache as usize
 }
 
 impl Directory {
     ghost use Rattle.bk_dir.specs.Directories.{contents_of};
     ghost use Rattle.bk_dir.specs.Contents.{opening, with_entry, with_state, with_pending};
+    ghost use Rattle.bk_dir.specs.Segments.{entry_in, segment_of, IsField};
+    ghost use Rattle.bk_dir.specs.Summaries.{bits_below};
 
     /// A directory for a configuration: no entry is valid and no way group is pending.
     /// It takes all the memory that it will ever need.
@@ -48,18 +50,24 @@ impl Directory {
         ensures state { IfOk result (λ d. contents_of d ≡ opening) }
         ensures config { IfOk result (λ d. d.config ≡ config) }
     {
-        let empty = Entry {
-            tag: 0,
-            state: Coh::I,
-        };
-        let sets = config.sets as usize;
-        let entries = vec![in alloc; empty; sets * SET_STRIDE]?;
-        let pending = vec![in alloc; false; sets]?;
+        let empty = [0; SEGMENT_WORDS];
+        let segments = vec![in alloc; empty; config.sets as usize * SET_STRIDE]?;
         Ok(Directory {
             config,
-            entries,
-            pending,
+            segments,
+            pending: 0,
         })
+    }
+
+    /// The bits that the directory keeps of a way of a cache. A way that the configuration doesn't have has none set.
+    pub(crate) fn field(&self, cache: u8, set: u8, way: u8) -> u64
+        requires cache { cache < self.now.config.caches }
+        requires set { set < self.now.config.sets }
+        requires way { way < 8 }
+        ensures entry { entry_in result ≡ (contents_of self.now).entries cache set way }
+        ensures is_field { IsField self.now.config way result }
+    {
+        field(&self.segments[place_of(cache, set)], way)
     }
 
     /// What the directory says of a way of a cache. Its tag is one of a block.
@@ -70,7 +78,7 @@ impl Directory {
         ensures value { result ≡ (contents_of self.now).entries cache set way }
         ensures tag { result.tag < tag_limit self.now.config }
     {
-        self.entries[place_of(cache, set, way)]
+        entry_in(self.field(cache, set, way))
     }
 
     /// Whether a way group is pending: a transaction of it is in progress.
@@ -78,7 +86,7 @@ impl Directory {
         requires { set < self.now.config.sets }
         ensures { result ≡ (contents_of self.now).pending set }
     {
-        self.pending[set as usize]
+        (self.pending >> set) % 2 == 1
     }
 
     /// Writes what the directory says of a way of a cache.
@@ -90,7 +98,11 @@ impl Directory {
         ensures state { contents_of self.new ≡ with_entry (contents_of self.old) cache set way entry }
         ensures config { self.new.config ≡ self.old.config }
     {
-        self.entries[place_of(cache, set, way)] = entry;
+        write_field(
+            &mut self.segments[place_of(cache, set)],
+            way,
+            field_of(entry),
+        );
     }
 
     /// Writes the state of a way of a cache. Its tag stays.
@@ -111,7 +123,7 @@ impl Directory {
         ensures state { contents_of self.new ≡ with_pending (contents_of self.old) set true }
         ensures config { self.new.config ≡ self.old.config }
     {
-        self.pending[set as usize] = true;
+        self.pending |= 1 << set;
     }
 
     /// Marks a way group as pending no more.
@@ -120,6 +132,23 @@ impl Directory {
         ensures state { contents_of self.new ≡ with_pending (contents_of self.old) set false }
         ensures config { self.new.config ≡ self.old.config }
     {
-        self.pending[set as usize] = false;
+        self.pending &= !(1 << set);
+    }
+
+    /// The words that the directory keeps of a cache and a set, the lowest first. Way w has bits 37 * w to 37 * w + 36 of
+    /// the number that they make: three bits of state code, then 34 bits of tag. All other bits are 0.
+    pub fn segment(&self, cache: u8, set: u8) -> [u64; 5]
+        requires cache { cache < self.now.config.caches }
+        requires set { set < self.now.config.sets }
+        ensures { result ≡ segment_of self.now.config.ways ((contents_of self.now).entries cache set) }
+    {
+        words_of(&self.segments[place_of(cache, set)])
+    }
+
+    /// The pending bits: a bit for each way group, group 0 in the lowest. All other bits are 0.
+    pub fn pending_word(&self) -> u64
+        ensures { result ≡ bits_below self.now.config.sets (contents_of self.now).pending }
+    {
+        self.pending
     }
 }

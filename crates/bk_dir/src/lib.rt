@@ -4,6 +4,7 @@
 mod directory;
 mod entry;
 pub mod laws;
+mod segment;
 mod summaries;
 
 pub use directory::Directory;

@@ -1,38 +1,94 @@
-ghost use Rattle.std.specs.Prelude.{◌≡◌, ◌≢◌, ◌<◌, ◌&&◌, ◌+◌, ◌^◌, if◌then◌else◌, IfSome};
+ghost use Rattle.std.specs.Prelude.{◌≡◌, ◌≢◌, ◌<◌, ◌&&◌, ◌||◌, ◌+◌, ◌^◌, if◌then◌else◌, IfSome};
+ghost use Rattle.bk_base.specs.Counting.{or_else};
 ghost use Rattle.bk_base.specs.States.{is_owner_like};
 ghost use Rattle.bk_dir.specs.Directories.{contents_of};
+ghost use Rattle.bk_dir.specs.Segments.{entry_in, HasCode};
 ghost use Rattle.bk_dir.specs.Summaries.{bits_below, found, holds, is_other, is_shared, owner, owner_at, owner_state, owner_way, shares, state_at, summary, victim_of, with_cache};
 
 use crate::directory::Directory;
 use crate::entry::{Entry, Query, Summary};
+use crate::segment::{SEGMENT_WAYS, code_in, tag_in};
 use bk_base::Coh;
 
-/// Whether an entry holds the block with a tag: it has the tag, in a state other than `I`.
-fn holds(entry: Entry, tag: u64) -> bool
-    ensures { result ≡ holds entry tag }
+/// The code of `I`.
+const INVALID: u64 = 0;
+/// The code of `S`.
+const SHARED: u64 = 1;
+
+/// Whether a field is that of an entry that holds the block with a tag: it has the tag, in a state other than `I`.
+fn holds(field: u64, tag: u64) -> bool
+    requires { HasCode field }
+    ensures { result ≡ holds (entry_in field) tag }
 {
-    entry.state.readable() && entry.tag == tag
+    tag_in(field) == tag && code_in(field) != INVALID
 }
 
-/// Whether a state is `S`.
-fn is_shared(state: Coh) -> bool
-    ensures { result ≡ is_shared state }
+/// Whether the state in a field is `S`.
+fn is_shared(field: u64) -> bool
+    requires { HasCode field }
+    ensures { result ≡ is_shared (entry_in field).state }
 {
-    matches!(state, Coh::S)
+    code_in(field) == SHARED
 }
 
-/// Whether an entry holds the block with a tag and answers for it.
-fn answers(entry: Entry, tag: u64) -> bool
-    ensures { result ≡ (holds entry tag && is_owner_like entry.state) }
-{
-    holds(entry, tag) && entry.state.owner_like()
+/// What a cache has of a block, for another cache.
+#[derive(Clone, Copy)]
+struct Copies {
+    /// The least way that holds the block and answers for it.
+    owner: Option<u8>,
+    /// Whether a way holds the block in `S`.
+    is_shared: bool,
 }
 
-/// Whether an entry is an entry `S` of the block with a tag.
-fn is_sharer(entry: Entry, tag: u64) -> bool
-    ensures { result ≡ (holds entry tag && is_shared entry.state) }
+/// The first of two answers.
+fn or_else(first: Option<u8>, later: Option<u8>) -> Option<u8>
+    ensures { result ≡ or_else first later }
 {
-    holds(entry, tag) && is_shared(entry.state)
+    match first {
+        None => later,
+        Some(way) => Some(way),
+    }
+}
+/// What a cache has of a block, with one way more.
+fn with_way(copies: Copies, way: u8, field: u64, tag: u64) -> Copies
+    requires { HasCode field }
+    ensures owner { let entry = entry_in field in
+        result.owner ≡ or_else copies.owner (if holds entry tag && is_owner_like entry.state then Some way else None) }
+    ensures is_shared { let entry = entry_in field in
+        result.is_shared ≡ (copies.is_shared || (holds entry tag && is_shared entry.state)) }
+{
+    if !holds(field, tag) {
+        return copies;
+    }
+    if is_shared(field) {
+        return Copies {
+            is_shared: true,
+            ..copies
+        };
+    }
+    Copies {
+        owner: or_else(copies.owner, Some(way)),
+        ..copies
+    }
+}
+
+/// What the other caches have of a block.
+#[derive(Clone, Copy)]
+struct Others {
+    /// The least cache that answers for the block, with its least such way.
+    owner: Option<(u8, u8)>,
+    /// The caches with an entry `S` of it: a bit for each.
+    sharers: u16,
+}
+
+/// The first of two answers.
+fn first_owner(first: Option<(u8, u8)>, later: Option<(u8, u8)>) -> Option<(u8, u8)>
+    ensures { result ≡ or_else first later }
+{
+    match first {
+        None => later,
+        Some(at) => Some(at),
+    }
 }
 
 /// A cache with a way, where there is one.
@@ -74,8 +130,9 @@ impl Directory {
         ensures value { result ≡ found self.now.config (contents_of self.now) cache set tag }
         ensures within { IfSome result (λ w. w < self.now.config.ways) }
     {
-        for way in 0..self.ways() {
-            if holds(self.entry(cache, set, way), tag) {
+        // All the ways of a segment, so that where each begins is known when this is compiled.
+        for way in 0..SEGMENT_WAYS {
+            if holds(self.field(cache, set, way), tag) {
                 return Some(way);
             }
         }
@@ -94,13 +151,13 @@ impl Directory {
         ensures others { result.others < 2 ^ self.now.config.caches }
     {
         let found = self.find(query.cache, query.set, query.tag);
-        let owner = self.owner(query);
+        let others = self.others(query);
         Summary {
             own: self.state_at(query.cache, query.set, found),
             own_way: found.unwrap_or(0),
-            owner,
-            owner_state: self.owner_state(query.set, owner),
-            others: self.others(query),
+            owner: others.owner,
+            owner_state: self.owner_state(query.set, others.owner),
+            others: others.sharers,
             victim: victim_of(
                 query.placed,
                 query.tag,
@@ -116,13 +173,6 @@ impl Directory {
         self.config.caches
     }
 
-    /// How many ways each set has.
-    fn ways(&self) -> u8
-        ensures { result ≡ self.now.config.ways }
-    {
-        self.config.ways
-    }
-
     /// The state at a way, `I` where there is none.
     fn state_at(&self, cache: u8, set: u8, way: Option<u8>) -> Coh
         requires cache { cache < self.now.config.caches }
@@ -136,64 +186,37 @@ impl Directory {
         }
     }
 
-    /// The least way of a cache that holds the block with a tag and answers for it.
-    fn owner_way(&self, cache: u8, set: u8, tag: u64) -> Option<u8>
+    /// What a cache has of a block, for another cache.
+    fn copies(&self, cache: u8, set: u8, tag: u64) -> Copies
         requires cache { cache < self.now.config.caches }
         requires set { set < self.now.config.sets }
-        ensures value { result ≡ owner_way self.now.config (contents_of self.now) cache set tag }
-        ensures within { IfSome result (λ w. w < self.now.config.ways) }
+        ensures owner { result.owner ≡ owner_way self.now.config (contents_of self.now) cache set tag }
+        ensures is_shared { result.is_shared ≡ shares self.now.config (contents_of self.now) cache set tag }
     {
-        for way in 0..self.ways() {
-            if answers(self.entry(cache, set, way), tag) {
-                return Some(way);
-            }
+        let mut copies = Copies {
+            owner: None,
+            is_shared: false,
+        };
+        for way in 0..SEGMENT_WAYS {
+            copies = with_way(copies, way, self.field(cache, set, way), tag);
         }
-        None
+        copies
     }
 
-    /// Whether a cache has an entry `S` of the block with a tag.
-    fn shares(&self, cache: u8, set: u8, tag: u64) -> bool
-        requires cache { cache < self.now.config.caches }
-        requires set { set < self.now.config.sets }
-        ensures { result ≡ shares self.now.config (contents_of self.now) cache set tag }
-    {
-        for way in 0..self.ways() {
-            if is_sharer(self.entry(cache, set, way), tag) {
-                return true;
-            }
-        }
-        false
-    }
-
-    /// A cache as the owner: it isn't the one that asks, and answers for the block.
-    fn owner_at(&self, query: Query, cache: u8) -> Option<(u8, u8)>
+    /// What a cache has of a block for the cache that asks, which has nothing for itself.
+    fn copies_for(&self, query: Query, cache: u8) -> Copies
         requires cache { cache < self.now.config.caches }
         requires set { query.set < self.now.config.sets }
-        ensures value { result ≡ owner_at self.now.config (contents_of self.now) query cache }
-        ensures way { IfSome result (λ at. at.1 < self.now.config.ways) }
-        ensures cache { IfSome result (λ at. at.0 ≡ cache) }
-        ensures is_other { IfSome result (λ at. at.0 ≢ query.cache) }
+        ensures owner { with_cache cache result.owner ≡ owner_at self.now.config (contents_of self.now) query cache }
+        ensures is_shared { result.is_shared ≡ is_other self.now.config (contents_of self.now) query cache }
     {
         if cache == query.cache {
-            return None;
+            return Copies {
+                owner: None,
+                is_shared: false,
+            };
         }
-        with_cache(cache, self.owner_way(cache, query.set, query.tag))
-    }
-
-    /// The least other cache that answers for the block, with its way.
-    fn owner(&self, query: Query) -> Option<(u8, u8)>
-        requires { query.set < self.now.config.sets }
-        ensures value { result ≡ owner self.now.config (contents_of self.now) query }
-        ensures within { IfSome result (λ at. (at.0 < self.now.config.caches) × (at.1 < self.now.config.ways)) }
-        ensures is_other { IfSome result (λ at. at.0 ≢ query.cache) }
-    {
-        for cache in 0..self.caches() {
-            match self.owner_at(query, cache) {
-                None => {}
-                Some(at) => return Some(at),
-            }
-        }
-        None
+        self.copies(cache, query.set, query.tag)
     }
 
     /// The state of the owner's entry, `I` where there is no owner.
@@ -208,25 +231,26 @@ impl Directory {
         }
     }
 
-    /// Whether a cache is not the one that asks and has an entry `S` of the block.
-    fn is_other(&self, query: Query, cache: u8) -> bool
-        requires cache { cache < self.now.config.caches }
-        requires set { query.set < self.now.config.sets }
-        ensures { result ≡ is_other self.now.config (contents_of self.now) query cache }
-    {
-        cache != query.cache && self.shares(cache, query.set, query.tag)
-    }
-
-    /// The other caches with an entry `S` of the block: a bit for each cache, cache 0 in the lowest.
-    fn others(&self, query: Query) -> u16
+    /// What the other caches have of a block: the owner, and those with an entry `S`, in one pass over the caches.
+    fn others(&self, query: Query) -> Others
         requires { query.set < self.now.config.sets }
-        ensures value { result ≡ bits_below self.now.config.caches (is_other self.now.config (contents_of self.now) query) }
-        ensures small { result < 2 ^ self.now.config.caches }
+        ensures owner { result.owner ≡ owner self.now.config (contents_of self.now) query }
+        ensures within { IfSome result.owner (λ at. (at.0 < self.now.config.caches) × (at.1 < self.now.config.ways)) }
+        ensures is_other { IfSome result.owner (λ at. at.0 ≢ query.cache) }
+        ensures sharers { result.sharers ≡ bits_below self.now.config.caches (is_other self.now.config (contents_of self.now) query) }
+        ensures small { result.sharers < 2 ^ self.now.config.caches }
     {
-        let mut bits = 0;
+        let mut others = Others {
+            owner: None,
+            sharers: 0,
+        };
         for cache in 0..self.caches() {
-            bits = with_bit(bits, cache, self.is_other(query, cache));
+            let copies = self.copies_for(query, cache);
+            others = Others {
+                owner: first_owner(others.owner, with_cache(cache, copies.owner)),
+                sharers: with_bit(others.sharers, cache, copies.is_shared),
+            };
         }
-        bits
+        others
     }
 }

@@ -1,10 +1,13 @@
-use Rattle.std.proofs.Common.{◌<◌, true, length, ap, arith}
+use Rattle.std.proofs.Common.{ap, arith}
 use Rattle.bk_dir.specs.Lists.{entries_of}
-use Rattle.bk_dir.proofs.Lists.{bits_of-set}
+use Rattle.bk_dir.proofs.Lists.{bits_of-on, on-small}
 use Rattle.bk_dir.proofs.directory.Directory.set_pending.Goals as goal
 
 pub returns-clause-state : goal.returns-clause-state
 returns-clause-state c =
-    let l : c.args.set < length c.args.self.now.pending.items = omega (arith, c.args.self.now.pending.ok.0) in
-    ap (λ bits. record { entries = entries_of c.args.self.now.entries.items; pending = bits })
-    (bits_of-set c.args.self.now.pending.items c.args.set true l)
+    ap (λ bits. record { entries = entries_of c.args.self.now.segments.items; pending = bits })
+    (bits_of-on c.args.self.now.pending c.args.set (omega arith))
+
+pub invariant_of-self-clause-pending_each : goal.invariant_of-self-clause-pending_each
+invariant_of-self-clause-pending_each c =
+    on-small c.args.self.now.pending c.args.set c.args.self.now.config.sets c.requires c.args.self.now.few_sets c.args.self.now.pending_each

@@ -1,8 +1,0 @@
-use Rattle.std.proofs.Common.{◌≡◌, None}
-use Rattle.bk_base.specs.Counting.{least_below}
-use Rattle.bk_dir.specs.Directories.{contents_of}
-use Rattle.bk_dir.proofs.EntryTests.{shares_at}
-use Rattle.bk_dir.proofs.directory.Directory.shares.Given as goal
-
-abbrev pub invariant-loop-way : goal.invariant-loop-way
-invariant-loop-way l = least_below l.way (shares_at (contents_of l.self) l.cache l.set l.tag) ≡ None
