@@ -56,16 +56,17 @@ dropped_more i set tag cache =
     (fun_ext (λ j. put_twice cache.lines set row (put (put cache.lines set row set) i (wiped_line tag (put cache.lines set row set i))) j)
     ∙ ap (put cache.lines set) written)
 
-past_eight : (xs : List Line) (set tag w : ℕ)
-    → (if nat_lt w 8 then wiped_line tag (lines_of xs set w) else lines_of xs set w) ≡ wiped_line tag (lines_of xs set w)
+past_ways : (ways : ℕ) (xs : List Line) (set tag w : ℕ)
+    → (if nat_lt w ways then wiped_line tag (lines_of ways xs set w) else lines_of ways xs set w)
+    ≡ wiped_line tag (lines_of ways xs set w)
 unfolding lines_of
-past_eight xs s tag w = grind (arith, nat_tests)
+past_ways ways xs s tag w = grind (arith, nat_tests)
 
 -- at last all are
 pub dropped_all : (a : CacheArrays) (set tag : ℕ)
-    → dropped_below 8 set tag (state_of a)
+    → dropped_below a.config.ways set tag (state_of a)
     ≡ record (state_of a) { lines = put (state_of a).lines set (λ w. wiped_line tag ((state_of a).lines set w)) }
 unfolding state_of
 dropped_all a s tag =
     ap (λ (r : ℕ → Line). record (state_of a) { lines = put (state_of a).lines s r })
-    (fun_ext (λ w. past_eight a.lines.items s tag w))
+    (fun_ext (λ w. past_ways a.config.ways a.lines.items s tag w))

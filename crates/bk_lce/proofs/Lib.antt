@@ -1,6 +1,9 @@
+pub mod Aged
 pub mod Ages
 pub mod Dropped
 pub mod Local
+pub mod Moved
+pub mod Packed
 pub mod Proper
 pub mod Recent
 pub mod Unused

@@ -1,5 +1,5 @@
 -- What a cache holds: its lines, their recency, and the operation that it has begun.
-use Rattle.std.specs.Prelude.{ℕ, List, [], ◌∷◌, Bool, not, ◌&&◌, ◌==◌, Option, None, replicate, filter}
+use Rattle.std.specs.Prelude.{ℕ, ◌+◌, ◌*◌, List, [], ◌∷◌, Bool, not, ◌&&◌, ◌==◌, Option, None, replicate, filter}
 use Rattle.bk_base.specs.Places.{Shape, group_of, tag_at}
 use Rattle.bk_base.specs.Counting.{join_below, least_below}
 use Rattle.bk_base.specs.States.{is_readable}
@@ -20,6 +20,11 @@ empty_line = record { tag = 0; state = I; words = replicate 8 0 }
 -- the ways of a set in the order of their numbers
 abbrev pub ways_in_order : ℕ → List ℕ
 ways_in_order ways = join_below ways (λ w. w ∷ [])
+
+-- A list of ways in one number, three bits for each: the way at place i of the list is added 8 ^ i times.
+abbrev pub packed : List ℕ → ℕ
+packed [] = 0
+packed (w ∷ ws) = w + 8 * packed ws
 
 -- a cache that was never used
 abbrev pub opening : Shape → CacheState

@@ -1,15 +1,11 @@
 -- Whether there is a row for a message: what it depends on, whatever the cache holds and the message says besides.
-use Rattle.std.specs.Prelude.{◌≡◌, ℕ, Bool, List, Option, Some, is_some}
+use Rattle.std.specs.Prelude.{◌≡◌, ℕ, Bool, List, Option, is_some}
 use Rattle.bk_base.specs.Places.{Shape}
 use Rattle.bk_base.specs.declared.coh.Coh.{Coh}
 use Rattle.bk_base.specs.declared.op.Op.{Op}
-use Rattle.bk_base.specs.declared.op.Done.{Done}
-use Rattle.bk_msg.specs.declared.row.Row.{Row}
-use Rattle.bk_msg.specs.Within.{IsWithin}
 use Rattle.bk_lce.specs.declared.line.InProgress.{InProgress}
-use Rattle.bk_lce.specs.declared.line.CacheStep.{CacheStep}
 use Rattle.bk_lce.specs.CacheState.{CacheState}
-use Rattle.bk_lce.specs.CacheTable.{Transition, flush_row, transfer_row, grant_row, grant_for, word_row, written_row, evicted_row, by_operation}
+use Rattle.bk_lce.specs.CacheTable.{flush_row, transfer_row, grant_row, grant_for, word_row, written_row, evicted_row, by_operation}
 
 abbrev pub CanFlush : Option ℕ → Bool → Type 0
 CanFlush at can = (k : Shape) (cache : CacheState) (c addr : ℕ) (state : Coh) → is_some (flush_row k cache c addr state at) ≡ can

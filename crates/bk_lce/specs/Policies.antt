@@ -1,6 +1,6 @@
 -- What a victim policy is asked, which way is the oldest, what is known of a policy that may be stored, and of an operation that is
 -- given with the way that a policy answers.
-use Rattle.std.specs.Prelude.{◌≡◌, ℕ, ◌<◌, ◌≤◌, List, length, map, position, not, ◌==◌, unwrap_or, MatchOption, slice_get, Some, Result}
+use Rattle.std.specs.Prelude.{◌≡◌, ℕ, ◌<◌, ◌≤◌, List, length, map, position, not, ◌==◌, unwrap_or, MatchOption, slice_get, Some, Result, nat_lt, if◌then◌else◌}
 use Rattle.std.specs.Borrow.{Bor}
 use Rattle.std.specs.Fn.{Shared}
 use Rattle.bk_base.specs.Places.{Shape, group_of}
@@ -32,6 +32,10 @@ pub record IsOfGreatestAge (vs : List WayView) (w : ℕ) : Type 0 where
 -- the least way in I; where none is in I, the least among those of greatest age
 abbrev pub IsOldest : List WayView → ℕ → Type 0
 IsOldest vs w = MatchOption (position (λ v. not (is_readable v.state)) vs) (IsOfGreatestAge vs w) (λ i. w ≡ i)
+
+-- a way where the set has it, else way 0
+abbrev pub pinned : List WayView → ℕ → ℕ
+pinned vs w = if nat_lt w (length vs) then w else 0
 
 -- a list that a policy is asked about
 pub record AreViews (vs : List WayView) : Type 0 where

@@ -3,7 +3,7 @@ ghost use Rattle.std.specs.Fn.{FnReturnsAt};
 ghost use Rattle.bk_msg.specs.Within.{IsWithin};
 ghost use Rattle.bk_lce.specs.Policies.{IsPolicy, IssuedBy, views};
 ghost use Rattle.bk_lce.specs.CacheTable.{address_of, Gives, issue, command, fill, has_row, SendsWithin, CompletesOwn};
-ghost use Rattle.bk_lce.specs.CacheState.{opening};
+ghost use Rattle.bk_lce.specs.CacheState.{opening, packed};
 ghost use Rattle.bk_lce.specs.CacheArrays.{state_of};
 
 use crate::cache_arrays::CacheArrays;
@@ -145,5 +145,14 @@ impl<F: Fn(&[WayView]) -> u8 + Copy + Send> Cache<F> {
         ensures { result ≡ (state_of self.now.arrays).lines set way }
     {
         self.arrays.line(set, way)
+    }
+
+    /// The recency list of a set as one word: the way at place i of the list stands in bits 3 * i to 3 * i + 2,
+    /// and all other bits are 0. The list has the most recently used way first.
+    pub fn recency(&self, set: u8) -> u32
+        requires { set < self.now.arrays.config.sets }
+        ensures { result ≡ packed ((state_of self.now.arrays).recency set) }
+    {
+        self.arrays.recency(set)
     }
 }

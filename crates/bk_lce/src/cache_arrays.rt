@@ -1,8 +1,7 @@
 ghost use Rattle.std.specs.Prelude.{◌≡◌, ◌*◌, ◌<◌, ◌≤◌, vec_len};
-ghost use Rattle.bk_lce.specs.Lists.{HasWay, AreComplete};
+ghost use Rattle.bk_lce.specs.Lists.{HasWay, AreListed};
 
 use crate::line::{InProgress, Line};
-use arrayvec::ArrayVec;
 use bk_base::Config;
 
 /// All of a cache but its policy: its lines, their recency, and the operation that it has begun. Contracts see what it
@@ -12,24 +11,31 @@ pub struct CacheArrays {
     pub(crate) config: Config,
     /// The number of the cache, below the number of caches.
     pub(crate) number: u8,
-    /// By set and way, with room for eight ways in each set.
+    /// By set and way: the line of a way has the place `set * ways + way`.
     pub(crate) lines: Vec<Line>,
-    /// By set: its ways, most recently used first.
-    pub(crate) recency: Vec<ArrayVec<u8, 8>>,
+    /// By set: its ways, most recently used first. The way at place i stands in bits 3 * i to 3 * i + 2; all other bits are 0.
+    pub(crate) recency: Vec<u32>,
     pub(crate) busy: Option<InProgress>,
     ghost few_caches: { config.caches ≤ 8 },
     ghost some_ways: { 1 ≤ config.ways },
     ghost few_ways: { config.ways ≤ 8 },
     ghost numbered: { number < config.caches },
-    ghost lines_each: { vec_len lines ≡ config.sets * 8 },
+    ghost lines_each: { vec_len lines ≡ config.sets * config.ways },
     ghost recency_each: { vec_len recency ≡ config.sets },
     ghost has_way: { HasWay config busy },
-    ghost complete: { AreComplete config recency.items },
+    ghost listed: { AreListed config recency.items },
 }
 
 impl CacheArrays {
     ghost use Rattle.std.specs.Prelude.{IfSome, is_some};
     ghost use Rattle.bk_lce.specs.CacheArrays.{state_of};
+
+    /// How many ways each set has.
+    pub(crate) fn ways(&self) -> u8
+        ensures { result ≡ self.now.config.ways }
+    {
+        self.config.ways
+    }
 
     /// The operation in progress.
     #[tactic(auto, unfolding(crate::specs::CacheArrays::state_of))]

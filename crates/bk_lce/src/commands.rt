@@ -12,20 +12,6 @@ use crate::lines::holds;
 use bk_base::{Addr, Coh, group_of, tag_at};
 use bk_msg::Message;
 
-/// A line in `I` where it holds the block with a tag.
-fn wiped_line(tag: u64, line: Line) -> Line
-    ensures { result ≡ wiped_line tag line }
-{
-    if holds(&line, tag) {
-        Line {
-            state: Coh::I,
-            ..line
-        }
-    } else {
-        line
-    }
-}
-
 impl CacheArrays {
     /// Answers a message, and completes nothing.
     pub(crate) fn answer_row(&self, message: Message) -> CacheStep
@@ -38,17 +24,30 @@ impl CacheArrays {
         }
     }
 
+    /// Sets the state of the line at a way of a set.
+    fn set_state(&mut self, set: u8, way: u8, state: Coh)
+        requires set { set < self.old.config.sets }
+        requires way { way < self.old.config.ways }
+        ensures state { state_of self.new ≡ with_line (state_of self.old) set way
+            (record ((state_of self.old).lines set way) { state = state }) }
+        ensures config { self.new.config ≡ self.old.config }
+        ensures number { self.new.number ≡ self.old.number }
+    {
+        let place = self.place(set, way);
+        self.lines[place].state = state;
+    }
+
     /// Drops the line at a way where it holds the block with a tag.
-    #[tactic(auto, using(crate::proofs::Written::lines_read), unfolding(crate::specs::CacheArrays::state_of))]
     fn wipe(&mut self, set: u8, way: u8, tag: u64)
         requires set { set < self.old.config.sets }
-        requires way { way < 8 }
+        requires way { way < self.old.config.ways }
         ensures state { state_of self.new ≡ with_line (state_of self.old) set way (wiped_line tag ((state_of self.old).lines set way)) }
         ensures config { self.new.config ≡ self.old.config }
         ensures number { self.new.number ≡ self.old.number }
     {
-        let line = self.lines[set as usize * 8 + way as usize];
-        self.write_line(set, way, wiped_line(tag, line));
+        if holds(self.kept(set, way), tag) {
+            self.set_state(set, way, Coh::I);
+        }
     }
 
     /// Drops each line that holds the block of an address.
@@ -59,7 +58,7 @@ impl CacheArrays {
     {
         let set = group_of(self.config, addr);
         let tag = tag_at(self.config, addr);
-        for way in 0..8 {
+        for way in 0..self.ways() {
             self.wipe(set, way, tag);
         }
     }
@@ -71,13 +70,12 @@ impl CacheArrays {
         ensures config { self.new.config ≡ self.old.config }
         ensures number { self.new.number ≡ self.old.number }
     {
-        let line = self.line_at(addr, way);
-        self.write_line(group_of(self.config, addr), way, Line { state, ..line });
+        self.set_state(group_of(self.config, addr), way, state);
     }
 
     /// What is sent for a copy that is flushed: the words of a dirty one.
-    fn flush_answer(&self, addr: Addr, line: Line) -> Message
-        ensures { result ≡ flush_answer self.now.number addr line }
+    fn flush_answer(&self, addr: Addr, line: &Line) -> Message
+        ensures { result ≡ flush_answer self.now.number addr line.now }
     {
         if line.state.dirty() {
             Message::wb(self.number, addr, line.words)
@@ -102,7 +100,7 @@ impl CacheArrays {
         match at {
             None => Err(Foreign),
             Some(at) => {
-                let answer = self.flush_answer(addr, self.line_at(addr, at));
+                let answer = self.flush_answer(addr, self.kept_at(addr, at));
                 self.lower(addr, at, state);
                 Ok(self.answer_row(answer))
             }
@@ -134,7 +132,7 @@ impl CacheArrays {
                 if peer == self.number {
                     return Err(Foreign);
                 }
-                let words = self.line_at(addr, at).words;
+                let words = self.kept_at(addr, at).words;
                 self.lower(addr, at, state);
                 Ok(self.answer_row(Message::fill(
                     self.number,

@@ -116,11 +116,12 @@ impl CacheArrays {
     {
         match op {
             Op::Store(at, value) => {
-                let line = self.line_at(at, way);
-                if block_of(at) != block_of(addr) || !holds(&line, tag_at(self.config, at)) {
+                let line = self.kept_at(at, way);
+                if block_of(at) != block_of(addr) || !holds(line, tag_at(self.config, at)) {
                     return Err(Foreign);
                 }
-                Ok(self.filled_row(op, at, 0, way, stored_line(line, at, value)))
+                let stored = stored_line(*line, at, value);
+                Ok(self.filled_row(op, at, 0, way, stored))
             }
             _ => Err(Foreign),
         }

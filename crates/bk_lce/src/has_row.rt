@@ -118,8 +118,8 @@ impl CacheArrays {
     {
         match op {
             Op::Store(at, _) => {
-                let line = self.line_at(at, way);
-                block_of(at) == block_of(addr) && holds(&line, tag_at(self.config, at))
+                let line = self.kept_at(at, way);
+                block_of(at) == block_of(addr) && holds(line, tag_at(self.config, at))
             }
             _ => false,
         }

@@ -1,5 +1,5 @@
 ghost use Rattle.std.specs.Prelude.{◌≡◌, ◌<◌, IfSome, Some, None};
-ghost use Rattle.bk_lce.specs.CacheState.{found};
+ghost use Rattle.bk_lce.specs.CacheState.{found, with_line};
 ghost use Rattle.bk_lce.specs.CacheTable.{request_row, hit_row, stored_line, load_row, store_hit, store_row, evict_row, issue_row, Takes};
 ghost use Rattle.bk_lce.specs.CacheArrays.{state_of};
 
@@ -64,12 +64,26 @@ impl CacheArrays {
         match at {
             None => self.request_row(Op::Load(addr), way, Message::rd(self.number, way, addr)),
             Some(at) => {
-                let line = self.line_at(addr, at);
-                let answer = line.words[word_of(addr) as usize];
+                let answer = self.kept_at(addr, at).words[word_of(addr) as usize];
                 self.use_way(group_of(self.config, addr), at);
                 self.hit_row(Op::Load(addr), answer, at)
             }
         }
+    }
+
+    /// Stores a word into the line at a way of a set.
+    fn store_word(&mut self, set: u8, way: u8, addr: Addr, value: u64)
+        requires set { set < self.old.config.sets }
+        requires way { way < self.old.config.ways }
+        ensures state { state_of self.new ≡ with_line (state_of self.old) set way
+            (stored_line ((state_of self.old).lines set way) addr value) }
+        ensures config { self.new.config ≡ self.old.config }
+        ensures number { self.new.number ≡ self.old.number }
+    {
+        let place = self.place(set, way);
+        let line = &mut self.lines[place];
+        line.state = Coh::M;
+        line.words[word_of(addr) as usize] = value;
     }
 
     /// Stores a word into the copy at a way.
@@ -80,8 +94,7 @@ impl CacheArrays {
         ensures number { self.new.number ≡ self.old.number }
     {
         let set = group_of(self.config, addr);
-        let line = self.line_at(addr, at);
-        self.write_line(set, at, stored_line(line, addr, value));
+        self.store_word(set, at, addr, value);
         self.use_way(set, at);
         self.hit_row(Op::Store(addr, value), 0, at)
     }
@@ -101,7 +114,7 @@ impl CacheArrays {
                 Message::wr(self.number, way, addr),
             ),
             Some(at) => {
-                if self.line_at(addr, at).state.writable() {
+                if self.kept_at(addr, at).state.writable() {
                     self.store_hit(addr, value, at)
                 } else {
                     self.request_row(

@@ -19,7 +19,7 @@ mod views;
 pub use cache::{Cache, address_of};
 pub use cache_arrays::CacheArrays;
 pub use line::{Busy, CacheStep, Foreign, InProgress, Line, WayView};
-pub use policy::{Victim, oldest};
+pub use policy::{Victim, oldest, pinned};
 
 #[cfg(test)]
 mod tests;

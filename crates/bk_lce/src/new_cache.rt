@@ -1,11 +1,10 @@
 ghost use Rattle.std.specs.Prelude.{◌≡◌, ◌≤◌, ◌<◌, ◌*◌, ℕ, IfOk, vec_len};
-ghost use Rattle.bk_lce.specs.CacheState.{ways_in_order, opening, empty_line};
-ghost use Rattle.bk_lce.specs.Lists.{lines_of, recency_of, AreOpening, AreOrdered};
+ghost use Rattle.bk_lce.specs.CacheState.{ways_in_order, opening, empty_line, packed};
+ghost use Rattle.bk_lce.specs.Lists.{AreOpening, AreOrdered};
 ghost use Rattle.bk_lce.specs.CacheArrays.{state_of};
 
 use crate::cache_arrays::CacheArrays;
 use crate::line::Line;
-use arrayvec::ArrayVec;
 use bk_base::{Coh, Config};
 use std::alloc::{AllocError, Global};
 
@@ -16,37 +15,30 @@ const EMPTY_LINE: Line = Line {
     words: [0; 8],
 };
 
-/// The ways of a set in the order of their numbers.
-fn ways_in_order(ways: u8) -> ArrayVec<u8, 8>
+/// The ways of a set in the order of their numbers, as a word.
+#[tactic(auto, using(crate::proofs::Unused::ordered_word))]
+fn ways_in_order(ways: u8) -> u32
     requires { ways ≤ 8 }
-    ensures { result.items ≡ ways_in_order ways }
+    ensures { result ≡ packed (ways_in_order ways) }
 {
-    let mut list = ArrayVec::new();
-    for way in 0..ways {
-        list.push(way);
-    }
-    list
+    0o76543210 % (1u32 << (3 * ways as u32))
 }
 
 /// The lines of a cache that was never used.
-fn opening_lines(alloc: Global, sets: u8) -> Result<Vec<Line>, AllocError>
-    ensures lines { IfOk result (λ v. AreOpening v.items) }
-    ensures each { IfOk result (λ v. vec_len v ≡ sets * 8) }
+fn opening_lines(alloc: Global, sets: u8, ways: u8) -> Result<Vec<Line>, AllocError>
+    ensures lines { IfOk result (λ v. AreOpening ways v.items) }
+    ensures each { IfOk result (λ v. vec_len v ≡ sets * ways) }
 {
-    vec![in alloc; EMPTY_LINE; sets as usize * 8]
+    vec![in alloc; EMPTY_LINE; sets as usize * ways as usize]
 }
 
 /// The recency of a cache that was never used.
-fn opening_recency(alloc: Global, sets: u8, ways: u8) -> Result<Vec<ArrayVec<u8, 8>>, AllocError>
+fn opening_recency(alloc: Global, sets: u8, ways: u8) -> Result<Vec<u32>, AllocError>
     requires { ways ≤ 8 }
     ensures recency { IfOk result (λ v. AreOrdered ways v.items) }
     ensures each { IfOk result (λ v. vec_len v ≡ sets) }
 {
-    let mut recency = Vec::new(alloc);
-    for _set in 0..sets {
-        recency.push(ways_in_order(ways))?;
-    }
-    Ok(recency)
+    vec![in alloc; ways_in_order(ways); sets as usize]
 }
 
 impl CacheArrays {
@@ -59,7 +51,7 @@ impl CacheArrays {
     {
         prove!(config.caches <= 8);
         prove!(1 <= config.ways && config.ways <= 8);
-        let lines = opening_lines(alloc, config.sets)?;
+        let lines = opening_lines(alloc, config.sets, config.ways)?;
         let recency = opening_recency(alloc, config.sets, config.ways)?;
         Ok(CacheArrays {
             config,

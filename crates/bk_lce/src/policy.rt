@@ -1,7 +1,7 @@
 ghost use Rattle.std.specs.Prelude.{◌≡◌, ◌<◌, ◌≤◌, length, position, not, IfSome};
 ghost use Rattle.std.specs.Fn.{FnReturnsAt};
 ghost use Rattle.bk_base.specs.States.{is_readable};
-ghost use Rattle.bk_lce.specs.Policies.{IsPolicy, AreViews, IsOfGreatestAge, IsOldest, views};
+ghost use Rattle.bk_lce.specs.Policies.{IsPolicy, AreViews, IsOfGreatestAge, IsOldest, pinned, views};
 ghost use Rattle.bk_lce.specs.CacheArrays.{state_of};
 
 use crate::cache_arrays::CacheArrays;
@@ -44,6 +44,13 @@ impl<F: Fn(&[WayView]) -> u8 + Copy + Send> Victim<F> {
         let views = arrays.views(set);
         self.ask(views.as_slice())
     }
+}
+
+/// A way where the set has it, else way 0. A policy that pins a way is a closure that keeps it and asks this.
+pub fn pinned(views: &[WayView], way: u8) -> u8
+    ensures { result ≡ pinned views.now way }
+{
+    if (way as usize) < views.len() { way } else { 0 }
 }
 
 /// The first way in `I`.

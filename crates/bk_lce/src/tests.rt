@@ -128,3 +128,46 @@ fn a_store_after_a_load(rt: HostRuntime) -> Result<(), Fail> {
     assert_eq!(rt; commanded(&mut cache, &st_wb), Some((None, Some(wb))));
     Ok(())
 }
+
+#[test]
+fn a_pinned_way(rt: HostRuntime) -> Result<(), Fail> {
+    let config = Config {
+        caches: 1,
+        sets: 1,
+        ways: 4,
+    };
+    let two = [view(Coh::M, 0), view(Coh::S, 1)];
+    assert_eq!(rt; pinned(&two, 1), 1);
+    assert_eq!(rt; pinned(&two, 2), 0);
+    let way = 3u8;
+    let victim = Victim::store(move |views: &[WayView]| -> u8 { pinned(views, way) });
+    let cache = Cache::make(rt.alloc(), config, 0, victim)?;
+    assert_eq!(rt; cache.choose(0), 3);
+    Ok(())
+}
+
+#[test]
+fn the_word_of_a_recency_list(rt: HostRuntime) -> Result<(), Fail> {
+    let config = Config {
+        caches: 1,
+        sets: 1,
+        ways: 4,
+    };
+    let way = 2u8;
+    let victim = Victim::store(move |views: &[WayView]| -> u8 { pinned(views, way) });
+    let addr = at(0x40)?;
+    let blk = Message::blk(0, way, Coh::E, addr, [7, 0, 0, 0, 0, 0, 0, 0]);
+    let mut cache = Cache::make(rt.alloc(), config, 0, victim)?;
+    assert_eq!(rt; cache.recency(0), 0x688);
+    assert_eq!(rt;
+        request(&mut cache, Op::Load(addr)),
+        Some(Message::rd(0, way, addr))
+    );
+    assert_eq!(rt; cache.recency(0), 0x688);
+    assert_eq!(rt;
+        commanded(&mut cache, &blk),
+        Some((Some(7), Some(Message::coh_ack(0, addr))))
+    );
+    assert_eq!(rt; cache.recency(0), 0x642);
+    Ok(())
+}

@@ -9,5 +9,6 @@ use Rattle.bk_lce.proofs.new_cache.opening_lines.Goals as goal
 pub returns-clause-lines : goal.returns-clause-lines
 returns-clause-lines c =
     IfOk-weaker c.vec.result _ _
-    (λ v made. subst (λ (xs : List Line). AreOpening xs) (sym (made (λ y same. same))) (opening_lines_are (c.args.sets * 8)))
+    (λ v made. subst (λ (xs : List Line). AreOpening c.args.ways xs) (sym (made (λ y same. same)))
+    (opening_lines_are c.args.ways (c.args.sets * c.args.ways)))
     c.vec.ensures.items_if_clones_equal

@@ -13,11 +13,12 @@ unfolding state_of
 returns-then-holds-clause-value c =
     let test : ℕ → Bool =
     λ w. holds (line_at c.args.self.now.config (state_of c.args.self.now) c.args.addr w) (tag_at c.args.self.now.config c.args.addr) in
-    let same : test c.loop-way.way ≡ holds c.line-line.result c.tag_at-tag.result =
-    ap (λ (set : ℕ). holds (lines_of c.args.self.now.lines.items set c.loop-way.way) (tag_at c.args.self.now.config c.args.addr))
+    let same : test c.loop-way.way ≡ holds c.kept.result.now c.tag_at-tag.result =
+    ap (λ (set : ℕ). holds (lines_of c.args.self.now.config.ways c.args.self.now.lines.items set c.loop-way.way)
+    (tag_at c.args.self.now.config c.args.addr))
     (sym c.group_of-set.ensures.value)
-    ∙ ap (λ (x : Line). holds x (tag_at c.args.self.now.config c.args.addr)) (sym c.line-line.ensures)
-    ∙ ap (λ (t : ℕ). holds c.line-line.result t) (sym c.tag_at-tag.ensures.value) in
+    ∙ ap (λ (x : Line). holds x (tag_at c.args.self.now.config c.args.addr)) (sym c.kept.ensures)
+    ∙ ap (λ (t : ℕ). holds c.kept.result.now t) (sym c.tag_at-tag.ensures.value) in
     let passes : test c.loop-way.way ≡ true = same ∙ sym c.holds.ensures ∙ c.if-holds.true in
     let lt : c.loop-way.way < c.args.self.now.config.ways = grind (arith, c.self.view_is, c.loop-way-test.true) in
     sym (first_below-found c.args.self.now.config.ways c.loop-way.way (λ w. if test w then Some w else None)

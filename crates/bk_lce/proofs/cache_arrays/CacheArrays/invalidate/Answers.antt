@@ -1,4 +1,4 @@
--- One way after the other is dropped, and after eight each that holds the block.
+-- One way after the other is dropped, and after the last each that holds the block.
 use Rattle.std.proofs.Common.{◌≡◌, ℕ, ◌∙◌, ap, sym, arith, refl}
 use Rattle.bk_base.specs.Places.{group_of}
 use Rattle.bk_base.specs.Tables.{put}
@@ -28,14 +28,14 @@ loop-way-preserved c =
 
 pub returns-clause-state : goal.returns-clause-state
 returns-clause-state c =
-    let eight : c.loop-way.way ≡ 8 = omega arith in
+    let all : c.loop-way.way ≡ c.args.self.now.config.ways = omega arith in
     let dropped : ℕ → ℕ → CacheState = λ set tag.
     record (state_of c.args.self.now) {
       lines = put (state_of c.args.self.now).lines set
           (λ w. wiped_line tag ((state_of c.args.self.now).lines set w));
     } in
     c.loop-way.invariant.state
-    ∙ ap (λ (i : ℕ). dropped_below i c.group_of-set.result c.tag_at-tag.result (state_of c.args.self.now)) eight
+    ∙ ap (λ (i : ℕ). dropped_below i c.group_of-set.result c.tag_at-tag.result (state_of c.args.self.now)) all
     ∙ dropped_all c.args.self.now c.group_of-set.result c.tag_at-tag.result
     ∙ ap (λ (set : ℕ). dropped set c.tag_at-tag.result) c.group_of-set.ensures.value
     ∙ ap (λ (t : ℕ). dropped (group_of c.args.self.now.config c.args.addr) t) c.tag_at-tag.ensures.value

@@ -1,34 +1,20 @@
--- The list of the set is the one that was kept there, and each way stands in it.
-use Rattle.std.proofs.Common.{arith, ◌≡◌, ℕ, List, true, ◌∙◌, ap, sym, subst}
+-- The word of the set holds the set's list, and what is written in its place holds the list with the way at its front.
+use Rattle.std.proofs.Common.{◌≡◌, ℕ, List, arith, ap, sym, ◌∙◌}
 use Rattle.bk_lce.specs.CacheState.{to_front}
 use Rattle.bk_lce.specs.CacheArrays.{state_of}
-use Rattle.bk_lce.specs.Lists.{recency_of, has}
-use Rattle.bk_lce.proofs.Written.{recency_of_set, complete_set, recency_read}
+use Rattle.bk_lce.specs.Lists.{digits, recency_of}
+use Rattle.bk_lce.proofs.Written.{list_read, recency_of_set}
 use Rattle.bk_lce.proofs.cache_arrays.CacheArrays.use_way.Goals as goal
-
-pub to_front-requires : goal.to_front-requires
-to_front-requires c =
-    let is = recency_read c.args.self.now.config.ways c.args.self.now.recency.items c.args.set c.index_mut.result.now (omega arith)
-    c.index_mut.ensures.value in
-    subst (λ (xs : List ℕ). has xs c.args.way ≡ true) (sym is) (c.args.self.now.complete c.args.set c.args.way c.requires.way)
 
 pub returns-clause-state : goal.returns-clause-state
 unfolding state_of
 returns-clause-state c =
-    let is = recency_read c.args.self.now.config.ways c.args.self.now.recency.items c.args.set c.index_mut.result.now (omega arith)
-    c.index_mut.ensures.value in
-    let moved : c.to_front.new.ways.items
-    ≡ to_front c.args.way (recency_of c.args.self.now.config.ways c.args.self.now.recency.items c.args.set) =
-    c.to_front.ensures ∙ ap (to_front c.args.way) is in
+    let ways : ℕ = c.args.self.now.config.ways in
+    let is : digits ways c.index-word.result.now ≡ recency_of ways c.args.self.now.recency.items c.args.set =
+    list_read ways c.args.self.now.recency.items c.args.set c.index-word.result.now (omega arith) c.index-word.ensures in
+    let moved : digits ways c.to_front.result ≡ to_front c.args.way (recency_of ways c.args.self.now.recency.items c.args.set) =
+    ap (λ (n : ℕ). digits n c.to_front.result) (sym c.ways-ways.ensures) ∙ c.to_front.ensures.list
+    ∙ ap (λ (n : ℕ). to_front c.args.way (digits n c.index-word.result.now)) c.ways-ways.ensures ∙ ap (to_front c.args.way) is in
     ap (λ (f : ℕ → List ℕ). record (state_of c.args.self.now) { recency = f })
-    (recency_of_set c.args.self.now.config.ways c.args.self.now.recency.items c.args.set c.args.way c.to_front.new.ways (omega arith) moved)
-
-pub invariant_of-self-clause-complete : goal.invariant_of-self-clause-complete
-invariant_of-self-clause-complete c =
-    let is = recency_read c.args.self.now.config.ways c.args.self.now.recency.items c.args.set c.index_mut.result.now (omega arith)
-    c.index_mut.ensures.value in
-    let moved : c.to_front.new.ways.items
-    ≡ to_front c.args.way (recency_of c.args.self.now.config.ways c.args.self.now.recency.items c.args.set) =
-    c.to_front.ensures ∙ ap (to_front c.args.way) is in
-    complete_set c.args.self.now.config c.args.self.now.recency.items c.args.set c.args.way c.to_front.new.ways (omega arith) moved
-    c.args.self.now.complete
+    (recency_of_set ways c.args.self.now.recency.items c.args.set c.to_front.result
+    (to_front c.args.way (recency_of ways c.args.self.now.recency.items c.args.set)) (omega arith) moved)
