@@ -1,4 +1,5 @@
 pub mod InstructionLaws
+pub mod Kept
 pub mod Outward
 pub mod Sound
 pub mod Wiping

@@ -179,6 +179,17 @@ abbrev pub directory_after : Shape → EngineState → Form → Contents
 directory_after k engine (Popq wp) = if wp == WITH_MARK then with_head_mark k engine.directory engine.core.head else engine.directory
 directory_after k engine f = directory_for_held k engine.directory engine.core.held f
 
+-- WHAT IS KEPT of the directory once it was summed up
+
+-- it stands after an instruction, but where an entry is written or the request ends
+abbrev pub keeps : Form → Bool
+keeps (Wde _) = false
+keeps (Wds _ _) = false
+keeps Fin = false
+keeps (Inv _) = false
+keeps (Stwb _ _) = false
+keeps f = true
+
 -- HOW THE INVALIDATED ENTRIES ARE WIPED, one way and one cache after the other
 
 -- the entries of a block of a cache, at each way of the configuration

@@ -6,3 +6,4 @@ pub mod Reads
 pub mod Sends
 pub mod Step
 pub mod Stops
+pub mod Summed

@@ -1,36 +1,23 @@
 -- What the engine reads: the directory for the held request, registers and flags, and the fields that `bk` asks for.
 use Rattle.std.specs.Prelude.{ℕ, ◌-◌, Bool, true, false, not, ◌||◌, ◌==◌, nat_lt, if◌then◌else◌, Option, Some, None, is_some, slice_index, slice_index_or}
-use Rattle.bk_base.specs.Places.{Shape, group_of, tag_at}
+use Rattle.bk_base.specs.Places.{Shape, group_of}
 use Rattle.bk_base.specs.States.{is_readable}
 use Rattle.bk_base.specs.declared.coh.Coh.{Coh}
 use Rattle.bk_base.specs.declared.coh.Coh.TheVariants.{I, S, E, F, M, O}
 use Rattle.bk_msg.specs.Networks.{address_of}
-use Rattle.bk_dir.specs.declared.entry.Query.{Query}
 use Rattle.bk_dir.specs.declared.entry.Summary.{Summary}
 use Rattle.bk_dir.specs.Contents.{Contents}
-use Rattle.bk_dir.specs.Summaries.{summary}
 use Rattle.bk_isa.specs.declared.operand.TheConstants.{FIELD_HEAD, FIELD_GP, FIELD_KIND, FIELD_OWN, FIELD_OWNER, FIELD_OTHERS, FIELD_VICTIM, FIELD_ACKS, FIELD_F0}
 use Rattle.bk_isa.specs.declared.form.Form.{Form}
-use Rattle.bk_isa.specs.declared.form.Form.TheVariants.{Bi, Beq, Bne, Blt, Bge, Bk}
+use Rattle.bk_isa.specs.declared.form.Form.TheVariants.{Bi, Beq, Bne, Blt, Bge, Bk, Wds, Inv, Stwb, Tr}
 use Rattle.bk_engine.specs.declared.parts.Core.{Core}
 use Rattle.bk_engine.specs.declared.parts.Head.{Head}
 use Rattle.bk_engine.specs.declared.parts.Held.{Held}
 use Rattle.bk_engine.specs.Engine.{EngineState}
-use Rattle.bk_engine.specs.Heads.{head_value, kind_number, is_placed, has_value}
+use Rattle.bk_engine.specs.Heads.{head_value, kind_number, has_value}
+pub use Rattle.bk_engine.specs.Summed.{query_of, summary_for}
 
--- THE DIRECTORY, as it is at the moment, for the held request
-
-abbrev pub query_of : Shape → Held → Query
-query_of k held = record {
-  cache = held.source;
-  set = group_of k held.addr;
-  tag = tag_at k held.addr;
-  way = held.way;
-  placed = is_placed held.kind;
-}
-
-abbrev pub summary_for : Shape → Contents → Held → Summary
-summary_for k d held = summary k d (query_of k held)
+-- THE DIRECTORY, as it is at the moment, for the held request: `summary_for`
 
 -- a flush takes the block out of E, M and O: such a victim is heavy
 abbrev pub is_heavy : Coh → Bool
@@ -99,6 +86,15 @@ owner_number O = 4
 abbrev pub is_of_summary : ℕ → Bool
 is_of_summary field = field == FIELD_OWN || field == FIELD_OWNER || field == FIELD_OTHERS || field == FIELD_VICTIM
 
+-- whether an instruction looks at what the directory says for the request
+abbrev pub looks : Form → Bool
+looks (Bk field _ _) = is_of_summary field
+looks (Wds _ _) = true
+looks (Inv _) = true
+looks (Stwb _ _) = true
+looks (Tr _ _) = true
+looks f = false
+
 -- others is no or yes; victim is light or heavy
 abbrev pub summary_value : Summary → ℕ → ℕ
 summary_value summary field =
@@ -132,6 +128,15 @@ is_branch_taken k engine (Blt a b _) = nat_lt (register engine.core a) (register
 is_branch_taken k engine (Bge a b _) = not (nat_lt (register engine.core a) (register engine.core b))
 is_branch_taken k engine (Bk field set _) = has_value set (field_value k engine field)
 is_branch_taken k engine f = false
+
+-- the branches on registers alone
+abbrev pub compares : Core → Form → Bool
+compares core (Bi _) = true
+compares core (Beq a b _) = register core a == register core b
+compares core (Bne a b _) = not (register core a == register core b)
+compares core (Blt a b _) = nat_lt (register core a) (register core b)
+compares core (Bge a b _) = not (nat_lt (register core a) (register core b))
+compares core f = false
 
 -- where it goes
 abbrev pub target : Form → ℕ

@@ -1,11 +1,12 @@
-ghost use Rattle.std.specs.Prelude.{◌≡◌, ◌<◌};
+ghost use Rattle.std.specs.Prelude.{◌≡◌, ◌<◌, false};
 ghost use Rattle.std.specs.Option.{option_copied};
 ghost use Rattle.bk_isa.specs.Operands.{Operands};
+ghost use Rattle.bk_engine.specs.Step.{is_plain};
 ghost use Rattle.bk_engine.specs.Changes.{after_take, after_pop, after_wait, after_service, core_but_place};
 
 use crate::heads::request_of;
 use crate::parts::{Choice, Core, DirtyBlock, Head, Held, NOT_READ, ROW_READ, SUMMED_UP};
-use crate::registers::{flags_set, reads_request};
+use crate::registers::reads_request;
 use bk_isa::Form;
 use bk_msg::{Message, Row};
 
@@ -52,9 +53,10 @@ fn wait(core: &mut Core, choice: Choice, message: Option<&Message>)
     }
 }
 
-/// What the instructions on the request do, and those on flags and registers.
+/// What the instructions on the request do.
 fn serve(core: &mut Core, sent: usize, form: Form)
-    requires { Operands form }
+    requires form { Operands form }
+    requires plain { is_plain form ≡ false }
     ensures { core.new ≡ after_service core.old sent form }
 {
     match form {
@@ -70,11 +72,11 @@ fn serve(core: &mut Core, sent: usize, form: Form)
         Form::Mova { .. } => reads_request(core, form),
         Form::Movs { .. } => reads_request(core, form),
         Form::Movw { .. } => reads_request(core, form),
-        _ => flags_set(core, form),
+        _ => (),
     }
 }
 
-/// What an instruction that runs changes in the engine, but for the place. `sent` is how many messages it sends.
+/// What an instruction that isn't plain changes in the engine where it runs, but for the place. `sent` is how many messages it sends.
 pub(crate) fn change_core(
     core: &mut Core,
     sent: usize,
@@ -82,7 +84,8 @@ pub(crate) fn change_core(
     choice: Choice,
     message: Option<&Message>,
 )
-    requires { Operands form }
+    requires form { Operands form }
+    requires plain { is_plain form ≡ false }
     ensures { core.new ≡ core_but_place core.old sent form choice (option_copied message.entry) }
 {
     match form {

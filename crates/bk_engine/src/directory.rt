@@ -5,6 +5,7 @@ ghost use Rattle.bk_dir.specs.Contents.{with_entry};
 ghost use Rattle.bk_dir.specs.Directories.{contents_of};
 ghost use Rattle.bk_engine.specs.Heads.{head_number, IsSound};
 ghost use Rattle.bk_engine.specs.Engine.{engine_of};
+ghost use Rattle.bk_engine.specs.Summed.{Tells, IsSummed};
 ghost use Rattle.bk_engine.specs.Changes.{wiped_entry, with_invalid_block, with_state_at, with_named_state, directory_for, directory_for_held, with_message_mark, with_head_mark, directory_after, with_wiped_ways};
 
 use crate::heads::{HEAD_INV_ACK, HEAD_NULL_WB, HEAD_REQUEST, head_number};
@@ -83,20 +84,28 @@ fn write_state(directory: &mut Directory, set: u8, at: Option<(u8, u8)>, state: 
 }
 
 /// Writes the state of an entry: the requester's own, the owner's, or the victim's.
-fn write_named(config: Config, directory: &mut Directory, held: &Held, who: u8, state: Coh)
+fn write_named(
+    config: Config,
+    directory: &mut Directory,
+    held: &Held,
+    summed: &Option<Summary>,
+    who: u8,
+    state: Coh,
+)
     requires config { directory.old.config ≡ config }
     requires way { IsWay config held.now.source held.now.way }
+    requires summed { Tells config (contents_of directory.old) held.now summed.now }
     ensures state { contents_of directory.new ≡ with_named_state config (contents_of directory.old) held.now who state }
     ensures config { directory.new.config ≡ config }
 {
     let group = group_of(config, held.addr);
     match who {
         WHOSE_OWN => {
-            let way = summary_for(config, directory, held).own_way;
+            let way = summary_for(config, directory, held, summed).own_way;
             directory.write_state(held.source, group, way, state);
         }
         WHOSE_OWNER => {
-            let owner = summary_for(config, directory, held).owner;
+            let owner = summary_for(config, directory, held, summed).owner;
             write_state(directory, group, owner, state);
         }
         _ => directory.write_state(held.source, group, held.way, state),
@@ -116,34 +125,48 @@ fn write_own(config: Config, directory: &mut Directory, held: &Held, state: Coh)
     directory.write_entry(held.source, group, held.way, Entry { tag, state });
 }
 
-fn change_for(config: Config, directory: &mut Directory, held: &Held, form: Form)
+fn change_for(
+    config: Config,
+    directory: &mut Directory,
+    held: &Held,
+    summed: &Option<Summary>,
+    form: Form,
+)
     requires config { directory.old.config ≡ config }
     requires few { config.caches ≤ 8 }
     requires way { IsWay config held.now.source held.now.way }
+    requires summed { Tells config (contents_of directory.old) held.now summed.now }
     ensures state { contents_of directory.new ≡ directory_for config (contents_of directory.old) held.now form }
     ensures config { directory.new.config ≡ config }
 {
     match form {
         Form::Wde { a } => write_own(config, directory, held, a),
-        Form::Wds { a, b } => write_named(config, directory, held, a, b),
+        Form::Wds { a, b } => write_named(config, directory, held, summed, a, b),
         Form::Inv { a } => {
-            let summary = summary_for(config, directory, held);
+            let summary = summary_for(config, directory, held, summed);
             invalidate(config, directory, held, a == WITH_OWNER, &summary);
         }
-        Form::Stwb { a, b } => write_named(config, directory, held, a, b),
+        Form::Stwb { a, b } => write_named(config, directory, held, summed, a, b),
         _ => (),
     }
 }
 
-fn change_held(config: Config, core: &Core, directory: &mut Directory, form: Form)
+fn change_held(
+    config: Config,
+    core: &Core,
+    directory: &mut Directory,
+    summed: &Option<Summary>,
+    form: Form,
+)
     requires config { directory.old.config ≡ config }
     requires sound { IsSound config core.now }
+    requires summed { IsSummed config (contents_of directory.old) core.now.held summed.now }
     ensures state { contents_of directory.new ≡ directory_for_held config (contents_of directory.old) core.now.held form }
     ensures config { directory.new.config ≡ config }
 {
     match &core.held {
         None => (),
-        Some(held) => change_for(config, directory, held, form),
+        Some(held) => change_for(config, directory, held, summed, form),
     }
 }
 
@@ -174,9 +197,16 @@ fn mark_head(config: Config, directory: &mut Directory, head: &Option<Head>)
 }
 
 /// What an instruction that runs changes in the directory. `core` is the engine before it.
-pub(crate) fn change_directory(config: Config, core: &Core, directory: &mut Directory, form: Form)
+pub(crate) fn change_directory(
+    config: Config,
+    core: &Core,
+    directory: &mut Directory,
+    summed: &Option<Summary>,
+    form: Form,
+)
     requires config { directory.old.config ≡ config }
     requires sound { IsSound config core.now }
+    requires summed { IsSummed config (contents_of directory.old) core.now.held summed.now }
     ensures state { contents_of directory.new ≡ directory_after config (engine_of core.now directory.old) form }
     ensures config { directory.new.config ≡ config }
 {
@@ -186,6 +216,6 @@ pub(crate) fn change_directory(config: Config, core: &Core, directory: &mut Dire
                 mark_head(config, directory, &core.head);
             }
         }
-        _ => change_held(config, core, directory, form),
+        _ => change_held(config, core, directory, summed, form),
     }
 }

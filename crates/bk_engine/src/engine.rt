@@ -1,12 +1,15 @@
 ghost use Rattle.std.specs.Prelude.{◌≡◌, ◌<◌};
+ghost use Rattle.bk_dir.specs.Directories.{contents_of};
 ghost use Rattle.bk_engine.specs.Heads.{IsSound, IsSound-prop};
+ghost use Rattle.bk_engine.specs.Summed.{IsSummed, IsSummed-prop};
 
 use crate::parts::{Choice, Core};
-use crate::step::run;
-use crate::stop::{Halt, Stop, stop_of};
+use crate::step::{is_known_branch, is_plain, run, run_branch, run_plain};
+use crate::stop::{Halt, Stop, form_stop, stop_of};
+use crate::summed::sum_up;
 use arrayvec::ArrayVec;
 use bk_base::Config;
-use bk_dir::Directory;
+use bk_dir::{Directory, Summary};
 use bk_isa::Instr;
 use bk_msg::Message;
 use std::alloc::{AllocError, Global};
@@ -42,7 +45,10 @@ pub struct Engine {
     pub(crate) config: Config,
     core: Core,
     directory: Directory,
+    /// What the directory says of the held request's block, where it was summed up and stands.
+    summed: Option<Summary>,
     ghost sound: { IsSound config core } by { IsSound-prop config core },
+    ghost tells: { IsSummed config (contents_of directory) core.held summed } by { IsSummed-prop },
     ghost same: { directory.config ≡ config },
     ghost some_ways: { 0 < config.ways },
 }
@@ -71,6 +77,7 @@ impl Engine {
             config,
             core: Core::new(),
             directory,
+            summed: None,
         })
     }
 
@@ -115,22 +122,49 @@ impl Engine {
         ensures sent { SendsWhereRan sent.new result }
         ensures config { self.new.config ≡ self.old.config }
     {
-        match stop_of(
+        let Some(instr) = program.get(self.core.place as usize) else {
+            return Stepped::Halted(Halt::NoInstruction);
+        };
+        let form = instr.form();
+        if is_plain(form) {
+            run_plain(&mut self.core, form);
+            return Stepped::Ran { popped: None };
+        }
+        sum_up(
             self.config,
             &self.core,
             &self.directory,
-            program,
+            &mut self.summed,
+            form,
+        );
+        match form_stop(
+            self.config,
+            &self.core,
+            &self.directory,
+            &self.summed,
+            form,
             choice,
             head,
         ) {
             Some(Stop::Waits(classes)) => Stepped::Waits(classes),
             Some(Stop::Halts(reason)) => Stepped::Halted(reason),
+            None if is_known_branch(form) => {
+                run_branch(
+                    self.config,
+                    &mut self.core,
+                    &self.directory,
+                    &self.summed,
+                    form,
+                );
+                Stepped::Ran { popped: None }
+            }
             None => {
                 let popped = run(
                     self.config,
                     &mut self.core,
                     &mut self.directory,
-                    program,
+                    &mut self.summed,
+                    form,
                     choice,
                     head,
                     sent,
@@ -149,6 +183,7 @@ impl Engine {
             self.config,
             &self.core,
             &self.directory,
+            &self.summed,
             program,
             choice,
             head,

@@ -12,6 +12,7 @@ mod registers;
 mod sends;
 mod step;
 mod stop;
+mod summed;
 
 pub use engine::{Engine, EngineStep, Stepped};
 pub use heads::{

@@ -4,9 +4,10 @@ ghost use Rattle.bk_msg.specs.Within.{IsWay};
 ghost use Rattle.bk_dir.specs.Directories.{contents_of};
 ghost use Rattle.bk_engine.specs.Engine.{engine_of};
 ghost use Rattle.bk_engine.specs.Heads.{IsSound};
-ghost use Rattle.bk_engine.specs.Reads.{query_of, summary_for, is_heavy, has_own, has_owner, has_victim, flag, number_of, gp_value, kind_value, own_number, owner_number, summary_value, held_value, field_value, is_branch_taken, target};
+ghost use Rattle.bk_engine.specs.Summed.{Tells, IsSummed};
+ghost use Rattle.bk_engine.specs.Reads.{query_of, summary_for, is_heavy, has_own, has_owner, has_victim, flag, number_of, gp_value, kind_value, own_number, owner_number, summary_value, held_value, field_value, compares, target};
 
-use crate::heads::{has_value, head_value, is_placed, kind_number};
+use crate::heads::{head_value, is_placed, kind_number};
 use crate::parts::{Core, Head, Held};
 use bk_base::{Coh, Config, group_of, tag_at};
 use bk_dir::{Directory, Query, Summary};
@@ -30,16 +31,25 @@ fn query_of(config: Config, held: &Held) -> Query
     }
 }
 
-/// What the directory says of the held request's block, as it is at the moment.
-pub(crate) fn summary_for(config: Config, directory: &Directory, held: &Held) -> Summary
+/// What the directory says of the held request's block, as it is at the moment: what is kept of it, or else it is summed up.
+pub(crate) fn summary_for(
+    config: Config,
+    directory: &Directory,
+    held: &Held,
+    summed: &Option<Summary>,
+) -> Summary
     requires config { directory.now.config ≡ config }
     requires way { IsWay config held.now.source held.now.way }
+    requires summed { Tells config (contents_of directory.now) held.now summed.now }
     ensures value { result ≡ summary_for config (contents_of directory.now) held.now }
     ensures own_way { result.own_way < config.ways }
     ensures owner { IfSome result.owner (λ at. (at.0 < config.caches) × (at.1 < config.ways)) }
     ensures others { result.others < 2 ^ config.caches }
 {
-    directory.summary(query_of(config, held))
+    match summed {
+        None => directory.summary(query_of(config, held)),
+        Some(summary) => *summary,
+    }
 }
 
 /// Whether a block in this state has to be flushed before it leaves.
@@ -50,38 +60,58 @@ fn is_heavy(state: Coh) -> bool
 }
 
 /// Whether the requester has an entry of the block.
-pub(crate) fn has_own(config: Config, core: &Core, directory: &Directory) -> bool
+pub(crate) fn has_own(
+    config: Config,
+    core: &Core,
+    directory: &Directory,
+    summed: &Option<Summary>,
+) -> bool
     requires config { directory.now.config ≡ config }
     requires sound { IsSound config core.now }
+    requires summed { IsSummed config (contents_of directory.now) core.now.held summed.now }
     ensures { result ≡ has_own config (contents_of directory.now) core.now.held }
 {
     match &core.held {
         None => false,
-        Some(held) => summary_for(config, directory, held).own.readable(),
+        Some(held) => summary_for(config, directory, held, summed).own.readable(),
     }
 }
 
 /// Whether another cache answers for the block.
-pub(crate) fn has_owner(config: Config, core: &Core, directory: &Directory) -> bool
+pub(crate) fn has_owner(
+    config: Config,
+    core: &Core,
+    directory: &Directory,
+    summed: &Option<Summary>,
+) -> bool
     requires config { directory.now.config ≡ config }
     requires sound { IsSound config core.now }
+    requires summed { IsSummed config (contents_of directory.now) core.now.held summed.now }
     ensures { result ≡ has_owner config (contents_of directory.now) core.now.held }
 {
     match &core.held {
         None => false,
-        Some(held) => summary_for(config, directory, held).owner.is_some(),
+        Some(held) => summary_for(config, directory, held, summed).owner.is_some(),
     }
 }
 
 /// Whether another block stands where the request's is to be placed.
-pub(crate) fn has_victim(config: Config, core: &Core, directory: &Directory) -> bool
+pub(crate) fn has_victim(
+    config: Config,
+    core: &Core,
+    directory: &Directory,
+    summed: &Option<Summary>,
+) -> bool
     requires config { directory.now.config ≡ config }
     requires sound { IsSound config core.now }
+    requires summed { IsSummed config (contents_of directory.now) core.now.held summed.now }
     ensures { result ≡ has_victim config (contents_of directory.now) core.now.held }
 {
     match &core.held {
         None => false,
-        Some(held) => summary_for(config, directory, held).victim.readable(),
+        Some(held) => summary_for(config, directory, held, summed)
+            .victim
+            .readable(),
     }
 }
 
@@ -168,22 +198,36 @@ fn summary_value(summary: &Summary, field: u8) -> u8
     }
 }
 
-fn held_value(config: Config, core: &Core, directory: &Directory, field: u8) -> u8
+fn held_value(
+    config: Config,
+    core: &Core,
+    directory: &Directory,
+    summed: &Option<Summary>,
+    field: u8,
+) -> u8
     requires config { directory.now.config ≡ config }
     requires sound { IsSound config core.now }
+    requires summed { IsSummed config (contents_of directory.now) core.now.held summed.now }
     ensures value { result ≡ held_value config (contents_of directory.now) core.now.held field }
     ensures small { result < 8 }
 {
     match &core.held {
         None => 0,
-        Some(held) => summary_value(&summary_for(config, directory, held), field),
+        Some(held) => summary_value(&summary_for(config, directory, held, summed), field),
     }
 }
 
 /// The value of a field that `bk` may ask for.
-fn field_value(config: Config, core: &Core, directory: &Directory, field: u8) -> u8
+pub(crate) fn field_value(
+    config: Config,
+    core: &Core,
+    directory: &Directory,
+    summed: &Option<Summary>,
+    field: u8,
+) -> u8
     requires config { directory.now.config ≡ config }
     requires sound { IsSound config core.now }
+    requires summed { IsSummed config (contents_of directory.now) core.now.held summed.now }
     ensures value { result ≡ field_value config (engine_of core.now directory.now) field }
     ensures small { result < 8 }
 {
@@ -193,21 +237,14 @@ fn field_value(config: Config, core: &Core, directory: &Directory, field: u8) ->
         FIELD_KIND => kind_value(&core.held),
         FIELD_ACKS => number_of(0 < core.acks),
         FIELD_F0.. => number_of(flag(core, field - FIELD_F0)),
-        _ => held_value(config, core, directory, field),
+        _ => held_value(config, core, directory, summed, field),
     }
 }
 
-/// Whether a branch is taken.
-pub(crate) fn is_branch_taken(
-    config: Config,
-    core: &Core,
-    directory: &Directory,
-    form: Form,
-) -> bool
-    requires config { directory.now.config ≡ config }
-    requires sound { IsSound config core.now }
-    requires form { Operands form }
-    ensures { result ≡ is_branch_taken config (engine_of core.now directory.now) form }
+/// Whether a branch on registers is taken.
+pub(crate) fn compares(core: &Core, form: Form) -> bool
+    requires { Operands form }
+    ensures { result ≡ compares core.now form }
 {
     let registers = &core.registers;
     match form {
@@ -216,7 +253,6 @@ pub(crate) fn is_branch_taken(
         Form::Bne { a, b, .. } => registers[a as usize] != registers[b as usize],
         Form::Blt { a, b, .. } => registers[a as usize] < registers[b as usize],
         Form::Bge { a, b, .. } => registers[a as usize] >= registers[b as usize],
-        Form::Bk { a, b, .. } => has_value(b, field_value(config, core, directory, a)),
         _ => false,
     }
 }

@@ -3,6 +3,7 @@ ghost use Rattle.bk_msg.specs.Within.{IsWay};
 ghost use Rattle.bk_dir.specs.Directories.{contents_of};
 ghost use Rattle.bk_engine.specs.Engine.{engine_of};
 ghost use Rattle.bk_engine.specs.Heads.{IsSound};
+ghost use Rattle.bk_engine.specs.Summed.{Tells, IsSummed};
 ghost use Rattle.bk_engine.specs.Sends.{HasStates, is_owner, is_invalidated, invs, flush_to, victim_address, flushes, transfer_to, grants, answers_word, writes_back, sends_for, sends_held, sends};
 ghost use Rattle.bk_msg.specs.Table.{holds};
 ghost use Rattle.bk_msg.specs.declared.table.States.TheVariants.{Lowered, Left, Received, Granted};
@@ -75,8 +76,17 @@ fn victim_address(config: Config, directory: &Directory, held: &Held) -> Addr
 }
 
 /// A flush of an entry: the requester's own, the owner's, or the victim.
-fn flushes(config: Config, directory: &Directory, held: &Held, who: u8, state: Coh, sent: &mut Sent)
+fn flushes(
+    config: Config,
+    directory: &Directory,
+    held: &Held,
+    summed: &Option<Summary>,
+    who: u8,
+    state: Coh,
+    sent: &mut Sent,
+)
     requires config { directory.now.config ≡ config }
+    requires summed { Tells config (contents_of directory.now) held.now summed.now }
     requires few { config.caches ≤ 8 }
     requires way { IsWay config held.now.source held.now.way }
     requires state { holds Lowered state ≡ true }
@@ -86,7 +96,7 @@ fn flushes(config: Config, directory: &Directory, held: &Held, who: u8, state: C
     match who {
         WHOSE_OWN => sent.push(Message::st_wb(held.source, state, held.addr)),
         WHOSE_OWNER => {
-            let owner = summary_for(config, directory, held).owner;
+            let owner = summary_for(config, directory, held, summed).owner;
             flush_to(owner, state, held.addr, sent)
         }
         _ => {
@@ -161,10 +171,12 @@ fn sends_for(
     core: &Core,
     directory: &Directory,
     held: &Held,
+    summed: &Option<Summary>,
     form: Form,
     sent: &mut Sent,
 )
     requires config { directory.now.config ≡ config }
+    requires summed { Tells config (contents_of directory.now) held.now summed.now }
     requires few { config.caches ≤ 8 }
     requires few_ways { config.ways ≤ 8 }
     requires way { IsWay config held.now.source held.now.way }
@@ -177,12 +189,12 @@ fn sends_for(
             config,
             held,
             a == WITH_OWNER,
-            &summary_for(config, directory, held),
+            &summary_for(config, directory, held, summed),
             sent,
         ),
-        Form::Stwb { a, b } => flushes(config, directory, held, a, b, sent),
+        Form::Stwb { a, b } => flushes(config, directory, held, summed, a, b, sent),
         Form::Tr { a, b } => {
-            let owner = summary_for(config, directory, held).owner;
+            let owner = summary_for(config, directory, held, summed).owner;
             transfer_to(held, owner, a, b, sent)
         }
         Form::Blk { a } => grants(held, a, &core.got, sent),
@@ -196,29 +208,45 @@ fn sends_for(
     }
 }
 
-fn sends_held(config: Config, core: &Core, directory: &Directory, form: Form, sent: &mut Sent)
+fn sends_held(
+    config: Config,
+    core: &Core,
+    directory: &Directory,
+    summed: &Option<Summary>,
+    form: Form,
+    sent: &mut Sent,
+)
     requires config { directory.now.config ≡ config }
     requires sound { IsSound config core.now }
+    requires summed { IsSummed config (contents_of directory.now) core.now.held summed.now }
     requires states { HasStates form }
     requires empty { sent.old.items ≡ [] }
     ensures { sent.new.items ≡ sends_held config (engine_of core.now directory.now) core.now.held form }
 {
     match &core.held {
         None => (),
-        Some(held) => sends_for(config, core, directory, held, form, sent),
+        Some(held) => sends_for(config, core, directory, held, summed, form, sent),
     }
 }
 
 /// The messages that an instruction sends, in order, where it runs.
-pub(crate) fn sends(config: Config, core: &Core, directory: &Directory, form: Form, sent: &mut Sent)
+pub(crate) fn sends(
+    config: Config,
+    core: &Core,
+    directory: &Directory,
+    summed: &Option<Summary>,
+    form: Form,
+    sent: &mut Sent,
+)
     requires config { directory.now.config ≡ config }
     requires sound { IsSound config core.now }
+    requires summed { IsSummed config (contents_of directory.now) core.now.held summed.now }
     requires states { HasStates form }
     requires empty { sent.old.items ≡ [] }
     ensures { sent.new.items ≡ sends config (engine_of core.now directory.now) form }
 {
     match form {
         Form::Memwb => writes_back(&core.dirty, sent),
-        _ => sends_held(config, core, directory, form, sent),
+        _ => sends_held(config, core, directory, summed, form, sent),
     }
 }

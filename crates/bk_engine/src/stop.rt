@@ -4,6 +4,7 @@ ghost use Rattle.bk_isa.specs.Operands.{Operands};
 ghost use Rattle.bk_dir.specs.Directories.{contents_of};
 ghost use Rattle.bk_engine.specs.Engine.{engine_of};
 ghost use Rattle.bk_engine.specs.Heads.{IsSound};
+ghost use Rattle.bk_engine.specs.Summed.{IsSummed};
 ghost use Rattle.bk_engine.specs.Stops.{halts_unless, wait_stop, pop_stop, branch_stop, entry_stop, named_entry, block_stop, request_stop, push_stop, directory_stop, form_stop, stop_of};
 
 use crate::heads::{
@@ -13,7 +14,7 @@ use crate::heads::{
 use crate::parts::{Choice, Core, Head, NOT_READ, ROW_READ};
 use crate::reads::{has_own, has_owner, has_victim};
 use bk_base::Config;
-use bk_dir::Directory;
+use bk_dir::{Directory, Summary};
 use bk_isa::operand::{
     FIELD_GP, FIELD_KIND, FIELD_OTHERS, FIELD_OWN, FIELD_OWNER, FIELD_VICTIM, WHOSE_OWN,
     WHOSE_OWNER,
@@ -111,23 +112,44 @@ fn branch_stop(core: &Core, field: u8) -> Option<Stop>
     }
 }
 
-fn entry_stop(core: &Core, is_there: bool) -> Option<Stop>
-    ensures { result ≡ entry_stop core.now is_there }
-{
-    let target = halts_unless(is_there, Halt::Target, None);
-    halts_unless(ROW_READ < core.summ, Halt::Summary, target)
-}
-
 /// Whether there is such an entry: the requester's own, the owner's, or the victim.
-fn named_entry(config: Config, core: &Core, directory: &Directory, who: u8) -> bool
+fn named_entry(
+    config: Config,
+    core: &Core,
+    directory: &Directory,
+    summed: &Option<Summary>,
+    who: u8,
+) -> bool
     requires config { directory.now.config ≡ config }
     requires sound { IsSound config core.now }
+    requires summed { IsSummed config (contents_of directory.now) core.now.held summed.now }
     ensures { result ≡ named_entry config (contents_of directory.now) core.now.held who }
 {
     match who {
-        WHOSE_OWN => has_own(config, core, directory),
-        WHOSE_OWNER => has_owner(config, core, directory),
-        _ => has_victim(config, core, directory),
+        WHOSE_OWN => has_own(config, core, directory, summed),
+        WHOSE_OWNER => has_owner(config, core, directory, summed),
+        _ => has_victim(config, core, directory, summed),
+    }
+}
+
+/// The directory is looked at only where it was summed up for the request.
+fn entry_stop(
+    config: Config,
+    core: &Core,
+    directory: &Directory,
+    summed: &Option<Summary>,
+    who: u8,
+) -> Option<Stop>
+    requires config { directory.now.config ≡ config }
+    requires sound { IsSound config core.now }
+    requires summed { IsSummed config (contents_of directory.now) core.now.held summed.now }
+    ensures { result ≡ entry_stop core.now (named_entry config (contents_of directory.now) core.now.held who) }
+{
+    if ROW_READ < core.summ {
+        let is_there = named_entry(config, core, directory, summed, who);
+        halts_unless(is_there, Halt::Target, None)
+    } else {
+        Some(Stop::Halts(Halt::Summary))
     }
 }
 
@@ -160,34 +182,44 @@ fn push_stop(core: &Core, form: Form) -> Option<Stop>
     }
 }
 
-fn directory_stop(config: Config, core: &Core, directory: &Directory, form: Form) -> Option<Stop>
+fn directory_stop(
+    config: Config,
+    core: &Core,
+    directory: &Directory,
+    summed: &Option<Summary>,
+    form: Form,
+) -> Option<Stop>
     requires config { directory.now.config ≡ config }
     requires sound { IsSound config core.now }
+    requires summed { IsSummed config (contents_of directory.now) core.now.held summed.now }
     ensures { result ≡ directory_stop config (engine_of core.now directory.now) form }
 {
     match form {
         Form::Rdw => request_stop(core),
         Form::Gad => halts_unless(NOT_READ < core.summ, Halt::Summary, None),
         Form::Wde { .. } => request_stop(core),
-        Form::Wds { a, .. } => entry_stop(core, named_entry(config, core, directory, a)),
+        Form::Wds { a, .. } => entry_stop(config, core, directory, summed, a),
         Form::Fin => request_stop(core),
         Form::Inv { .. } => halts_unless(ROW_READ < core.summ, Halt::Summary, None),
-        Form::Stwb { a, .. } => entry_stop(core, named_entry(config, core, directory, a)),
-        Form::Tr { .. } => entry_stop(core, has_owner(config, core, directory)),
+        Form::Stwb { a, .. } => entry_stop(config, core, directory, summed, a),
+        Form::Tr { .. } => entry_stop(config, core, directory, summed, WHOSE_OWNER),
         _ => push_stop(core, form),
     }
 }
 
-fn form_stop(
+/// Why an instruction doesn't run, or none where it does, as `stop_of` says.
+pub(crate) fn form_stop(
     config: Config,
     core: &Core,
     directory: &Directory,
+    summed: &Option<Summary>,
     form: Form,
     choice: Choice,
     message: Option<&Message>,
 ) -> Option<Stop>
     requires config { directory.now.config ≡ config }
     requires sound { IsSound config core.now }
+    requires summed { IsSummed config (contents_of directory.now) core.now.held summed.now }
     ensures { result ≡ form_stop config (engine_of core.now directory.now) form choice (option_copied message.entry) }
 {
     match form {
@@ -198,7 +230,7 @@ fn form_stop(
         Form::Wfq { a } => wait_stop(&core.head, a, choice, message),
         Form::Popq { .. } => pop_stop(core),
         Form::Defer => halts_unless(head_value(&core.head) == HEAD_REQUEST, Halt::Head, None),
-        _ => directory_stop(config, core, directory, form),
+        _ => directory_stop(config, core, directory, summed, form),
     }
 }
 
@@ -209,16 +241,26 @@ pub(crate) fn stop_of(
     config: Config,
     core: &Core,
     directory: &Directory,
+    summed: &Option<Summary>,
     program: &[Instr],
     choice: Choice,
     message: Option<&Message>,
 ) -> Option<Stop>
     requires config { directory.now.config ≡ config }
     requires sound { IsSound config core.now }
+    requires summed { IsSummed config (contents_of directory.now) core.now.held summed.now }
     ensures { result ≡ stop_of config (engine_of core.now directory.now) program.now choice (option_copied message.entry) }
 {
     match program.get(core.place as usize) {
         None => Some(Stop::Halts(Halt::NoInstruction)),
-        Some(instr) => form_stop(config, core, directory, instr.form(), choice, message),
+        Some(instr) => form_stop(
+            config,
+            core,
+            directory,
+            summed,
+            instr.form(),
+            choice,
+            message,
+        ),
     }
 }
