@@ -6,12 +6,13 @@ use Rattle.std.proofs.lemmas.Bool.Decides.{nat_tests}
 use mathlib.Core.Path.{fun_ext}
 use Rattle.bk_base.specs.Places.{Shape}
 use Rattle.bk_base.specs.Tables.{put}
-use Rattle.bk_base.specs.declared.coh.Coh.{Coh}
 use Rattle.bk_msg.specs.declared.row.Row.{Row}
-use Rattle.bk_msg.specs.declared.row.Row.TheVariants.{Fill}
+use Rattle.bk_msg.specs.declared.row.Network.{Network}
+use Rattle.bk_msg.specs.declared.row.Network.TheVariants.{Fill}
+use Rattle.bk_msg.specs.Networks.{network_of, receiver_of}
 use Rattle.bk_msg.specs.Within.{IsWithin}
 use Rattle.bk_system.specs.Numbering.{fill_place, fills_of}
-use Rattle.bk_system.specs.Events.{fills_with}
+use Rattle.bk_system.specs.Events.{fills_with, is_fill}
 use Rattle.bk_system.proofs.Queues.{put_at, put_other}
 
 lt : (a b : ℕ) → a < b → nat_lt a b ≡ true
@@ -73,21 +74,23 @@ pub fills-put : (q : ℕ → List Row) (to from : ℕ) (ms : List Row) → to < 
 fills-put q to from ms l m = fun_ext (λ a. fun_ext (λ b. fills-one q to from ms a b l m))
 
 -- who receives a fill is a cache
-pub fill-receiver : (k : Shape) (m : Row) (from to way : ℕ) (state : Coh) (addr : ℕ) (words : List ℕ)
-    → m ≡ Fill from to way state addr words → IsWithin k m → to < k.caches
-fill-receiver k m from to way state addr words e h = (subst (IsWithin k) e h).1.cache
+pub fill-receiver : (k : Shape) (m : Row) → network_of m ≡ Fill → IsWithin k m → receiver_of m < k.caches
+fill-receiver k m e h = grind arith
 
 -- a fill that was sent
-pub fill-sent : (q new : ℕ → List Row) (c : ℕ) (sent : Option Row) (m : Row) (from to way : ℕ) (state : Coh) (addr : ℕ)
-    (words : List ℕ)
-    → sent ≡ Some m → m ≡ Fill from to way state addr words → c < 8 → to < 8
-    → new ≡ put q (fill_place to c) (q (fill_place to c) ++ m ∷ []) → fills_of new ≡ fills_with c sent (fills_of q)
-fill-sent q new c sent m from to way state addr words es em l r e =
-    ap fills_of e ∙ fills-put q to c (q (fill_place to c) ++ m ∷ []) r l
+pub fill-sent : (q new : ℕ → List Row) (c : ℕ) (sent : Option Row) (m : Row) (to place : ℕ)
+    → sent ≡ Some m → network_of m ≡ Fill → to ≡ receiver_of m → place ≡ fill_place to c → c < 8 → to < 8
+    → new ≡ put q place (q place ++ m ∷ []) → fills_of new ≡ fills_with c sent (fills_of q)
+fill-sent q new c sent m to place es network is at l r e =
+    ap fills_of (e ∙ ap (λ (p : ℕ). put q p (q p ++ m ∷ [])) at) ∙ fills-put q to c (q (fill_place to c) ++ m ∷ []) r l
     ∙ ap (λ (ms : List Row). put (fills_of q) to (put (fills_of q to) c (ms ++ m ∷ []))) (sym (fills-at q to c r l))
-    ∙ subst (λ (message : Row). put (fills_of q) to (put (fills_of q to) c (fills_of q to c ++ message ∷ []))
-    ≡ fills_with c (Some message) (fills_of q)) (sym em) refl
-    ∙ ap (λ (o : Option Row). fills_with c o (fills_of q)) (sym es)
+    ∙ ap (λ (j : ℕ). put (fills_of q) j (put (fills_of q j) c (fills_of q j c ++ m ∷ []))) is
+    ∙ sym (with-fill (network_of m) (receiver_of m) m network) ∙ ap (λ (o : Option Row). fills_with c o (fills_of q)) (sym es)
+  where
+    with-fill : (network : Network) (j : ℕ) (m : Row) → network ≡ Fill
+        → (if is_fill network then put (fills_of q) j (put (fills_of q j) c (fills_of q j c ++ m ∷ [])) else fills_of q)
+        ≡ put (fills_of q) j (put (fills_of q j) c (fills_of q j c ++ m ∷ []))
+    with-fill network j m e = rw e refl
 
 -- where all channels are empty
 pub fills-none : fills_of (λ c. []) ≡ λ to from. []

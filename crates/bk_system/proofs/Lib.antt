@@ -1,7 +1,13 @@
+pub mod Answered
 pub mod CacheList
 pub mod CacheRows
 pub mod Empty
 pub mod Entries
 pub mod Fills
+pub mod Idle
+pub mod Marks
+pub mod Nexts
 pub mod Queues
+pub mod WithinNeed
+pub mod WordBits
 pub mod Words

@@ -1,26 +1,24 @@
 -- The channels of a network kept in a list.
 use Rattle.std.proofs.Common.{◌≡◌, ◌≢◌, ℕ, zero, suc, ◌<◌, ◌≤◌, List, [], ◌∷◌, ◌++◌, Bool, true, false, cond, eqb, Option, Some, None, refl, ap, sym, ◌∙◌, length, get_or, set, arith}
-use Rattle.std.specs.Prelude.{slice_get, ◌==◌}
+use Rattle.std.specs.Prelude.{slice_get}
 use Rattle.std.specs.Option.{option_map_or}
 use Rattle.std.proofs.lemmas.Bool.Decides.{nat_tests}
 use mathlib.Core.Path.{fun_ext}
-use Rattle.std.specs.Option.{option_copied, option_to_list, MatchOption, IfSome}
+use Rattle.std.specs.Option.{option_copied, IfSome}
 use Rattle.std.specs.Prelude.{⊤, All}
 use Rattle.bk_engine.specs.Step.{IsOutward}
 use Rattle.std.proofs.Common.{Result, Ok, Err}
 use Rattle.std.specs.Result.{OnOk}
-use Rattle.std.specs.Slice.{IsItemAt}
 use Rattle.std.specs.Vec.{vec_len}
-use Rattle.std.specs.VecDeque.{deque_len, deque_capacity}
 use Rattle.std.specs.Borrow.{Bor}
-use Rattle.std.proofs.Common.{◌+◌, ◌-◌, drop, subst}
+use Rattle.std.proofs.Common.{◌+◌, drop, subst}
 use Rattle.bk_base.specs.Places.{Shape}
 use Rattle.bk_msg.specs.declared.row.Row.{Row}
 use Rattle.bk_msg.specs.Within.{IsWithin}
 use Rattle.bk_base.specs.Tables.{put}
 use Rattle.bk_system.specs.declared.channels.Channels.{Channels}
-use Rattle.bk_base.specs.Counting.{is_nil}
-use Rattle.bk_system.specs.Queues.{Queue, queues_of, EachWithin, AreWithin}
+use Rattle.bk_system.specs.declared.channel.Channel.{Channel}
+use Rattle.bk_system.specs.Queues.{items_of, room_of, queues_of, EachWithin, AreWithin}
 use Rattle.bk_system.specs.Channels.{queue, room}
 
 -- f of the value at a place, or a default past the end
@@ -61,21 +59,6 @@ at-past f d [] i l = refl
 at-past f d (y ∷ ys) zero l = absurd (omega arith)
 at-past f d (y ∷ ys) (suc i) l = at-past f d ys i (omega arith)
 
--- what an optional reference to the first of a list points to
-pub item-first : {X : Type 0} (xs : List X) (r : Option (Bor X)) → IsItemAt xs 0 r → option_copied r ≡ slice_get xs 0
-item-first [] None h = refl
-item-first (x ∷ xs) None h = absurd (let some : false ≡ true = h.2 (omega arith) in cc)
-item-first {X = X} [] (Some b) h = absurd (let l : 0 < length {A = X} [] = h.3.0 in omega arith)
-item-first (x ∷ xs) (Some b) h = ap Some h.1
-
--- what was taken off the front of a list
-pub front-first : {X : Type 0} (o : Option X) (xs ys : List X) (n : ℕ) (P Q : Type 0) → xs ≡ option_to_list o ++ ys
-    → n ≡ length xs
-    → MatchOption o ((n ≡ 0) × P) (λ _. Q) → o ≡ slice_get xs 0
-front-first None [] ys n P Q e l h = refl
-front-first None (x ∷ xs) ys n P Q e l h = absurd (let z : n ≡ 0 = h.0 in omega arith)
-front-first (Some x) xs ys n P Q e l h = rw e refl
-
 -- the same value again
 pub put-same : {X : Type 0} (f : ℕ → X) (number : ℕ) (x : X) → x ≡ f number → put f number x ≡ f
 unfolding put
@@ -94,31 +77,31 @@ pub put_other : {X : Type 0} (f : ℕ → X) (number : ℕ) (x : X) (j : ℕ) �
 unfolding put
 put_other f k x j n = grind (arith, nat_tests)
 
-pub queue-set : (a b : Channels) (c : ℕ) (q : Queue) → b.queues.items ≡ set a.queues.items c q → c < vec_len a.queues
-    → queue b ≡ put (queue a) c q.items
+pub queue-set : (a b : Channels) (c : ℕ) (q : Channel) → b.queues.items ≡ set a.queues.items c q → c < vec_len a.queues
+    → queue b ≡ put (queue a) c (items_of q)
 unfolding queue
 queue-set a b c q e l =
     let lt : c < length a.queues.items = omega (arith, a.queues.ok.0) in
-    ap (λ (qs : List Queue). at (λ (x : Queue). x.items) [] qs) e ∙ table-set (λ (x : Queue). x.items) [] a.queues.items c q lt
+    ap (λ (qs : List Channel). at items_of [] qs) e ∙ table-set items_of [] a.queues.items c q lt
 
 -- the channel whose queue was changed
-pub queue-at : (a b : Channels) (c : ℕ) (q : Queue) → b.queues.items ≡ set a.queues.items c q → c < vec_len a.queues
-    → queue b c ≡ q.items
-queue-at a b c q e l = ap (λ (f : ℕ → List Row). f c) (queue-set a b c q e l) ∙ put_at (queue a) c q.items
+pub queue-at : (a b : Channels) (c : ℕ) (q : Channel) → b.queues.items ≡ set a.queues.items c q → c < vec_len a.queues
+    → queue b c ≡ items_of q
+queue-at a b c q e l = ap (λ (f : ℕ → List Row). f c) (queue-set a b c q e l) ∙ put_at (queue a) c (items_of q)
 
-pub queue-item : (a : Channels) (c : ℕ) (q : Queue) → c < vec_len a.queues → q ≡ get_or a.queues.items c q → queue a c ≡ q.items
+pub queue-item : (a : Channels) (c : ℕ) (q : Channel) → c < vec_len a.queues → q ≡ get_or a.queues.items c q → queue a c ≡ items_of q
 unfolding queue
 queue-item a c q l e =
     let lt : c < length a.queues.items = omega (arith, a.queues.ok.0) in
-    at-item (λ (x : Queue). x.items) [] a.queues.items c q lt e
+    at-item items_of [] a.queues.items c q lt e
 
 pub queue-past : (a : Channels) (c : ℕ) → vec_len a.queues ≤ c → queue a c ≡ []
 unfolding queue
 queue-past a c l =
     let le : length a.queues.items ≤ c = omega (arith, a.queues.ok.0) in
-    at-past (λ (x : Queue). x.items) [] a.queues.items c le
+    at-past items_of [] a.queues.items c le
 
-pub queue-empty : (a : Channels) → ((number : ℕ) → at {Y = List Row} (λ q. q.items) [] a.queues.items number ≡ [])
+pub queue-empty : (a : Channels) → ((number : ℕ) → at {Y = List Row} items_of [] a.queues.items number ≡ [])
     → queue a ≡ λ c. []
 unfolding queue
 queue-empty a h = fun_ext h
@@ -132,31 +115,22 @@ at-more f d [] x e h (suc number) = refl
 at-more f d (y ∷ ys) x e h zero = h zero
 at-more f d (y ∷ ys) x e h (suc number) = at-more f d ys x e (λ j. h (suc j)) number
 
-pub is_nil-length : {X : Type 0} (xs : List X) (n : ℕ) → n ≡ length xs → is_nil xs ≡ (n == 0)
-is_nil-length [] n e = rw e refl
-is_nil-length (x ∷ xs) n e = grind (arith, nat_tests)
-
--- whether a channel that holds the items of a queue is empty
-pub queue-nil : (a : Channels) (c : ℕ) (q : Queue) (b : Bool) → c < vec_len a.queues → q ≡ get_or a.queues.items c q
-    → b ≡ (deque_len q == 0) → is_nil (queue a c) ≡ b
-queue-nil a c q b l e h = rw (queue-item a c q l e) (is_nil-length q.items q.len q.ok.0 ∙ sym h)
-
 -- ROOM
 
-pub room-set : (a b : Channels) (c : ℕ) (q : Queue) → b.queues.items ≡ set a.queues.items c q → c < vec_len a.queues
-    → room b ≡ put (room a) c (deque_capacity q - deque_len q)
+pub room-set : (a b : Channels) (c : ℕ) (q : Channel) → b.queues.items ≡ set a.queues.items c q → c < vec_len a.queues
+    → room b ≡ put (room a) c (room_of q)
 unfolding room
 room-set a b c q e l =
     let lt : c < length a.queues.items = omega (arith, a.queues.ok.0) in
-    ap (λ (qs : List Queue). at (λ (x : Queue). deque_capacity x - deque_len x) 0 qs) e
-    ∙ table-set (λ (x : Queue). deque_capacity x - deque_len x) 0 a.queues.items c q lt
+    ap (λ (qs : List Channel). at room_of 0 qs) e
+    ∙ table-set room_of 0 a.queues.items c q lt
 
-pub room-item : (a : Channels) (c : ℕ) (q : Queue) → c < vec_len a.queues → q ≡ get_or a.queues.items c q
-    → room a c ≡ deque_capacity q - deque_len q
+pub room-item : (a : Channels) (c : ℕ) (q : Channel) → c < vec_len a.queues → q ≡ get_or a.queues.items c q
+    → room a c ≡ room_of q
 unfolding room
 room-item a c q l e =
     let lt : c < length a.queues.items = omega (arith, a.queues.ok.0) in
-    at-item (λ (x : Queue). deque_capacity x - deque_len x) 0 a.queues.items c q lt e
+    at-item room_of 0 a.queues.items c q lt e
 
 at-some : {X : Type 0} (f : X → ℕ) (xs : List X) (i : ℕ) → 1 ≤ at f 0 xs i → i < length xs
 at-some f [] i h = absurd (omega (arith, h))
@@ -167,7 +141,7 @@ at-some f (x ∷ xs) (suc i) h = let l : i < length xs = at-some f xs i h in ome
 pub room-there : (a : Channels) (c : ℕ) → 1 ≤ room a c → c < vec_len a.queues
 unfolding room
 room-there a c h =
-    let l : c < length a.queues.items = at-some (λ (x : Queue). deque_capacity x - deque_len x) a.queues.items c h in
+    let l : c < length a.queues.items = at-some room_of a.queues.items c h in
     omega (arith, a.queues.ok.0)
 
 -- one number changed in a table of numbers by at most n
@@ -183,27 +157,27 @@ put-le f number v n l j = near (eqb j number) (λ e. ap f (same j number e))
     near false e = omega arith
 
 -- the room of a channel whose queue was changed
-pub room-at : (a b : Channels) (c : ℕ) (q : Queue) → b.queues.items ≡ set a.queues.items c q → c < vec_len a.queues
-    → room b c ≡ deque_capacity q - deque_len q
-room-at a b c q e l = ap (λ (f : ℕ → ℕ). f c) (room-set a b c q e l) ∙ put_at (room a) c (deque_capacity q - deque_len q)
+pub room-at : (a b : Channels) (c : ℕ) (q : Channel) → b.queues.items ≡ set a.queues.items c q → c < vec_len a.queues
+    → room b c ≡ room_of q
+room-at a b c q e l = ap (λ (f : ℕ → ℕ). f c) (room-set a b c q e l) ∙ put_at (room a) c (room_of q)
 
 -- a channel whose queue has lost at most n of its room
-pub room-changed : (a b : Channels) (c : ℕ) (q : Queue) (n : ℕ) → b.queues.items ≡ set a.queues.items c q → c < vec_len a.queues
-    → room a c ≤ (deque_capacity q - deque_len q) + n → (j : ℕ) → room a j ≤ room b j + n
+pub room-changed : (a b : Channels) (c : ℕ) (q : Channel) (n : ℕ) → b.queues.items ≡ set a.queues.items c q → c < vec_len a.queues
+    → room a c ≤ room_of q + n → (j : ℕ) → room a j ≤ room b j + n
 room-changed a b c q n e l le j =
     subst (λ (f : ℕ → ℕ). room a j ≤ f j + n) (sym (room-set a b c q e l))
-    (put-le (room a) c (deque_capacity q - deque_len q) n le j)
+    (put-le (room a) c (room_of q) n le j)
 
 -- a channel whose queue has lost none of its room
-pub room-kept : (a b : Channels) (c : ℕ) (q : Queue) → b.queues.items ≡ set a.queues.items c q → c < vec_len a.queues
-    → room a c ≤ deque_capacity q - deque_len q → (j : ℕ) → room a j ≤ room b j
+pub room-kept : (a b : Channels) (c : ℕ) (q : Channel) → b.queues.items ≡ set a.queues.items c q → c < vec_len a.queues
+    → room a c ≤ room_of q → (j : ℕ) → room a j ≤ room b j
 room-kept a b c q e l le j = let same : room a j ≤ room b j + 0 = room-changed a b c q 0 e l (omega arith) j in omega arith
 
 -- a channel whose queue was given room
-pub room-made : {E : Type 0} (a b : Channels) (c : ℕ) (q : Queue) (more : ℕ) (r : Result ⊤ E)
+pub room-made : {E : Type 0} (a b : Channels) (c : ℕ) (q : Channel) (more : ℕ) (r : Result ⊤ E)
     → b.queues.items ≡ set a.queues.items c q
-    → c < vec_len a.queues → OnOk r (deque_len q + more ≤ deque_capacity q) → OnOk r (more ≤ room b c)
-room-made a b c q more (Ok _) e l h = let is : room b c ≡ deque_capacity q - deque_len q = room-at a b c q e l in omega arith
+    → c < vec_len a.queues → OnOk r (more ≤ room_of q) → OnOk r (more ≤ room b c)
+room-made a b c q more (Ok _) e l h = let is : room b c ≡ room_of q = room-at a b c q e l in omega arith
 room-made a b c q more (Err _) e l h = h
 
 -- WITHIN A CONFIGURATION
@@ -212,16 +186,16 @@ cond-within : (k : Shape) (b : Bool) (xs ys : List Row) → EachWithin k xs → 
 cond-within k true xs ys p q = p
 cond-within k false xs ys p q = q
 
-pub within-set : (k : Shape) (xs : List Queue) (c : ℕ) (q : Queue) → c < length xs → AreWithin k (queues_of xs)
-    → EachWithin k q.items
+pub within-set : (k : Shape) (xs : List Channel) (c : ℕ) (q : Channel) → c < length xs → AreWithin k (queues_of xs)
+    → EachWithin k (items_of q)
     → AreWithin k (queues_of (set xs c q))
 within-set k xs c q l h p j =
-    subst (EachWithin k) (sym (at-set (λ (x : Queue). x.items) [] xs c q j l)) (cond-within k (eqb j c) q.items (queues_of xs j) p (h j))
+    subst (EachWithin k) (sym (at-set items_of [] xs c q j l)) (cond-within k (eqb j c) (items_of q) (queues_of xs j) p (h j))
 
-pub within-item : (k : Shape) (xs : List Queue) (c : ℕ) (q : Queue) → c < length xs → q ≡ get_or xs c q
+pub within-item : (k : Shape) (xs : List Channel) (c : ℕ) (q : Channel) → c < length xs → q ≡ get_or xs c q
     → AreWithin k (queues_of xs)
-    → EachWithin k q.items
-within-item k xs c q l e h = subst (EachWithin k) (at-item (λ (x : Queue). x.items) [] xs c q l e) (h c)
+    → EachWithin k (items_of q)
+within-item k xs c q l e h = subst (EachWithin k) (at-item items_of [] xs c q l e) (h c)
 
 pub within-append : (k : Shape) (xs : List Row) (m : Row) → EachWithin k xs → IsWithin k m → EachWithin k (xs ++ m ∷ [])
 within-append k [] m h p = (p, tt)
@@ -231,11 +205,14 @@ pub within-rest : (k : Shape) (xs : List Row) → EachWithin k xs → EachWithin
 within-rest k [] h = tt
 within-rest k (x ∷ xs) h = h.1
 
-pub within-first : (k : Shape) (xs : List Row) (r : Option (Bor Row)) → IsItemAt xs 0 r → EachWithin k xs
+pub within-first : (k : Shape) (xs : List Row) (r : Option (Bor Row)) → option_copied r ≡ slice_get xs 0 → EachWithin k xs
     → IfSome r (λ b. IsWithin k b.now)
 within-first k xs None h p = tt
-within-first k [] (Some b) h p = absurd (let l : 0 < length {A = Row} [] = h.3.0 in omega arith)
-within-first k (x ∷ xs) (Some b) h p = subst (IsWithin k) (sym h.1) p.0
+within-first k [] (Some b) h p = absurd (cc)
+within-first k (x ∷ xs) (Some b) h p = let same : b.now ≡ x = cc in subst (IsWithin k) (sym same) p.0
+
+pub within-empty : (k : Shape) (channel : ℕ → List Row) → ((c : ℕ) → channel c ≡ []) → AreWithin k channel
+within-empty k channel h c = subst (EachWithin k) (sym (h c)) tt
 
 -- a message of those that the engine sends
 pub outward-at : (k : Shape) (xs : List Row) (i : ℕ) (m : Row) → All (IsOutward k) xs → i < length xs → m ≡ get_or xs i m

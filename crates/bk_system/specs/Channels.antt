@@ -1,5 +1,5 @@
 -- The channels of one network, one for each number, and the words of a memory, as functions.
-use Rattle.std.specs.Prelude.{ℕ, ◌%◌, ◌==◌, if◌then◌else◌, List, slice_index, vec_len, unwrap_or, replicate}
+use Rattle.std.specs.Prelude.{◌≡◌, ◌≢◌, ℕ, ◌<◌, ◌≤◌, ◌%◌, ◌==◌, if◌then◌else◌, List, [], slice_index, vec_len, unwrap_or, replicate}
 use Rattle.std.specs.Ordering.{nat_cmp}
 use Rattle.std.specs.BTreeMap.{get}
 use Rattle.bk_base.specs.Places.{block_of, word_of}
@@ -19,6 +19,13 @@ room channels c = rooms_of channels.queues.items c
 -- how many channels there are
 abbrev pub channel_count : Channels → ℕ
 channel_count channels = vec_len channels.queues
+
+-- c is the least number from `from` on, of those below count, whose channel holds a message
+pub record IsNext (channel : ℕ → List Row) (count from c : ℕ) : Type 0 where
+  pub low : from ≤ c
+  pub there : c < count
+  pub holds : channel c ≢ []
+  pub before : (d : ℕ) → from ≤ d → d < c → channel d ≡ []
 
 -- the word at an address, 0 where none was written: the memory keeps whole blocks, by their numbers
 unfoldable pub word_at : MainMemory → ℕ → ℕ

@@ -1,9 +1,13 @@
+pub mod Bits
 pub mod CacheStates
 pub mod Channels
 pub mod EventCalls
 pub mod Events
 pub mod Lawful
+pub mod Lookups
 pub mod Memory
+pub mod Needs
+pub mod Next
 pub mod Numbering
 pub mod Queues
 pub mod Runs

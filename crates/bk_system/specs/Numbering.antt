@@ -1,6 +1,7 @@
 -- The parts of a system by their numbers: its caches, the channels between them, and how many operations each cache has completed.
-use Rattle.std.specs.Prelude.{◌≡◌, ℕ, ◌+◌, ◌*◌, ◌<◌, ◌&&◌, nat_lt, if◌then◌else◌, List, [], Some, slice_get, slice_index, length}
+use Rattle.std.specs.Prelude.{◌≡◌, ℕ, ◌+◌, ◌*◌, ◌<◌, ◌&&◌, nat_lt, if◌then◌else◌, List, [], Some, is_none, slice_get, slice_index, length}
 use Rattle.std.specs.Option.{option_map_or}
+use Rattle.std.specs.Int.{bit_at}
 use Rattle.bk_base.specs.Places.{Shape}
 use Rattle.bk_base.specs.declared.op.Done.{Done}
 use Rattle.bk_msg.specs.declared.row.Row.{Row}
@@ -16,6 +17,10 @@ caches_of k xs c = option_map_or caches.state_of (slice_get xs c) (opening k)
 -- each cache has its place as its number, and the configuration
 abbrev pub AreCaches : Shape → List CacheArrays → Type 0
 AreCaches k xs = (c : ℕ) (x : CacheArrays) → slice_get xs c ≡ Some x → (x.number ≡ c) × (x.config ≡ k)
+
+-- the bits of a word mark the caches that have no operation in progress, of so many
+abbrev pub AreIdle : ℕ → ℕ → (ℕ → CacheState) → Type 0
+AreIdle n word caches = (c : ℕ) → c < 64 → bit_at word c ≡ (if nat_lt c n && is_none (caches c).busy then 1 else 0)
 
 -- the place of the fill channel to a cache from another, with room for eight senders
 abbrev pub fill_place : ℕ → ℕ → ℕ

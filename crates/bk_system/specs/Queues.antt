@@ -1,25 +1,30 @@
--- The queues of a network's channels, in a list: what each holds, how much room it has, and that its messages are within a
--- configuration.
-use Rattle.std.specs.Prelude.{ℕ, ◌-◌, List, [], ◌∷◌, slice_get}
+-- The channels of a network, in a list: what each holds, how much room it has, that its messages are within a configuration, and
+-- a word of marks for those that hold any.
+use Rattle.std.specs.Prelude.{◌≡◌, ℕ, ◌+◌, ◌-◌, ◌<◌, List, [], ◌∷◌, ◌++◌, length, slice_get}
 use Rattle.std.specs.Option.{option_map_or}
+use Rattle.std.specs.Int.{bit_at}
 use Rattle.std.specs.Coded.{×_prop, Unit-prop}
 use Rattle.std.specs.VecDeque.{deque_len, deque_capacity}
-use Rattle.std.specs.declared.collections.VecDeque.{VecDeque}
-use Rattle.std.specs.declared.alloc.Global.{Global}
 use Rattle.bk_base.specs.Places.{Shape}
 use Rattle.bk_msg.specs.declared.row.Row.{Row}
 use Rattle.bk_msg.specs.Within.{IsWithin, IsWithin-prop}
+use Rattle.bk_system.specs.declared.channel.Channel.{Channel}
 
-abbrev pub Queue : Type 0
-Queue = VecDeque Row Global
+-- what a channel holds, the oldest message first: those of its ring, then those of its list
+abbrev pub items_of : Channel → List Row
+items_of q = q.ring.items ++ q.list.items
 
--- what the queue of a number holds, the oldest message first; nothing where there is no such queue
-abbrev pub queues_of : List Queue → ℕ → List Row
-queues_of queues c = option_map_or (λ (q : Queue). q.items) (slice_get queues c) []
+-- how many more messages a channel takes without memory
+abbrev pub room_of : Channel → ℕ
+room_of q = (16 - length q.ring.items) + (deque_capacity q.list - deque_len q.list)
 
--- how many more messages the queue of a number takes without memory
-abbrev pub rooms_of : List Queue → ℕ → ℕ
-rooms_of queues c = option_map_or (λ (q : Queue). deque_capacity q - deque_len q) (slice_get queues c) 0
+-- what the channel of a number holds, the oldest message first; nothing where there is no such channel
+abbrev pub queues_of : List Channel → ℕ → List Row
+queues_of queues c = option_map_or items_of (slice_get queues c) []
+
+-- how many more messages the channel of a number takes without memory
+abbrev pub rooms_of : List Channel → ℕ → ℕ
+rooms_of queues c = option_map_or room_of (slice_get queues c) 0
 
 -- each message of a list is within the configuration
 abbrev pub EachWithin : Shape → List Row → Type 0
@@ -37,3 +42,12 @@ EachWithin-prop k (m ∷ ms) = ×_prop (IsWithin-prop k m) (EachWithin-prop k ms
 
 pub AreWithin-prop : (k : Shape) (channel : ℕ → List Row) → IsProp (AreWithin k channel)
 AreWithin-prop k channel = hlevel (EachWithin-prop k)
+
+-- 1 where a channel holds a message, else 0
+abbrev pub mark_of : List Row → ℕ
+mark_of [] = 0
+mark_of (m ∷ ms) = 1
+
+-- the 64 bits of a word mark the channels that hold a message
+abbrev pub AreMarks : ℕ → (ℕ → List Row) → Type 0
+AreMarks marks channel = (c : ℕ) → c < 64 → bit_at marks c ≡ mark_of (channel c)

@@ -1,9 +1,10 @@
-ghost use Rattle.std.specs.Prelude.{◌≡◌, ◌<◌, vec_len, IfOk, is_some};
+ghost use Rattle.std.specs.Prelude.{◌≡◌, ◌<◌, ◌≤◌, vec_len, IfOk, is_some, MatchOption};
 ghost use Rattle.bk_base.specs.Tables.{put};
 ghost use Rattle.bk_msg.specs.Within.{IsWithin};
 ghost use Rattle.bk_lce.specs.CacheTable.{SendsWithin, CompletesOwn};
-ghost use Rattle.bk_system.specs.Numbering.{AreCaches};
+ghost use Rattle.bk_system.specs.Numbering.{AreCaches, AreIdle, caches_of};
 
+use crate::bits::{first_bit, marked};
 use crate::bounds::cache_count;
 use bk_base::{Config, Op};
 use bk_lce::{Busy, CacheArrays, CacheStep, Foreign};
@@ -15,8 +16,12 @@ use std::alloc::{AllocError, Global};
 pub struct Caches {
     pub(crate) config: Config,
     arrays: Vec<CacheArrays>,
+    /// Bit c is set where cache c has no operation in progress.
+    idle: u64,
+    ghost few: { config.caches ≤ 8 },
     ghost each: { vec_len arrays ≡ config.caches },
     ghost own: { AreCaches config arrays.items },
+    ghost idlers: { AreIdle config.caches idle (caches_of config arrays.items) },
 }
 
 impl Caches {
@@ -24,6 +29,8 @@ impl Caches {
     ghost use Rattle.bk_lce.specs.CacheTable.{Gives, issue, command, fill};
     ghost use Rattle.bk_lce.specs.CacheArrays.{state_of};
     ghost use Rattle.bk_system.specs.CacheStates.{states_of};
+    ghost use Rattle.bk_system.specs.Lookups.{is_idle};
+    ghost use Rattle.bk_system.specs.Next.{IsNextOf, IsNoneFrom};
 
     /// As many caches as the configuration has, which were never used.
     pub fn make(alloc: Global, config: Config) -> Result<Caches, AllocError>
@@ -31,11 +38,17 @@ impl Caches {
         ensures config { IfOk result (λ caches. caches.config ≡ config) }
     {
         let mut arrays = Vec::new(alloc);
+        let mut idle = 0;
         for cache in 0..cache_count(config) {
             let made = CacheArrays::make(alloc, config, cache)?;
             arrays.push(made)?;
+            idle = marked(idle, cache, true);
         }
-        Ok(Caches { config, arrays })
+        Ok(Caches {
+            config,
+            arrays,
+            idle,
+        })
     }
 
     /// The cache of a number.
@@ -46,6 +59,14 @@ impl Caches {
         ensures number { result.now.number ≡ cache }
     {
         &self.arrays[cache as usize]
+    }
+
+    /// The least cache from a start on that has no operation in progress.
+    pub fn next_idle(&self, start: u8) -> Option<u8>
+        ensures { MatchOption result (IsNoneFrom self.now.config.caches start (is_idle (states_of self.now)))
+            (IsNextOf self.now.config.caches start (is_idle (states_of self.now))) }
+    {
+        first_bit(self.idle, start)
     }
 
     /// Gives a cache an operation, with the way of a victim.
@@ -60,7 +81,10 @@ impl Caches {
         ensures config { self.new.config ≡ self.old.config }
     {
         let arrays = &mut self.arrays[cache as usize];
-        arrays.issue_at(op, way)
+        let step = arrays.issue_at(op, way);
+        let is_idle = !arrays.busy();
+        self.idle = marked(self.idle, cache, is_idle);
+        step
     }
 
     /// Hands a cache a message of the command network.
@@ -75,7 +99,10 @@ impl Caches {
         ensures config { self.new.config ≡ self.old.config }
     {
         let arrays = &mut self.arrays[cache as usize];
-        arrays.command(message)
+        let step = arrays.command(message);
+        let is_idle = !arrays.busy();
+        self.idle = marked(self.idle, cache, is_idle);
+        step
     }
 
     /// Hands a cache a message of the fill network.
@@ -90,6 +117,9 @@ impl Caches {
         ensures config { self.new.config ≡ self.old.config }
     {
         let arrays = &mut self.arrays[cache as usize];
-        arrays.fill(message)
+        let step = arrays.fill(message);
+        let is_idle = !arrays.busy();
+        self.idle = marked(self.idle, cache, is_idle);
+        step
     }
 }

@@ -1,38 +1,48 @@
-ghost use Rattle.std.specs.Prelude.{◌≡◌, ◌<◌, ◌≤◌, ◌+◌, ℕ, [], ◌∷◌, ◌++◌, IfOk, OnOk, IfSome, slice_get, vec_len, drop};
+ghost use Rattle.std.specs.Prelude.{◌≡◌, ◌<◌, ◌≤◌, ◌+◌, ℕ, [], ◌∷◌, ◌++◌, IfOk, OnOk, IfSome, MatchOption, slice_get, vec_len, drop};
 ghost use Rattle.std.specs.Option.{option_copied};
 ghost use Rattle.bk_base.specs.Tables.{put};
 ghost use Rattle.bk_base.specs.Counting.{all_below, is_nil};
 ghost use Rattle.bk_msg.specs.Within.{IsWithin};
-ghost use Rattle.bk_system.specs.Queues.{queues_of, AreWithin, AreWithin-prop};
+ghost use Rattle.bk_system.specs.Queues.{queues_of, AreWithin, AreWithin-prop, AreMarks};
 
+use crate::bits::{first_bit, marked};
+use crate::channel::Channel;
 use bk_base::Config;
 use bk_msg::Message;
 use std::alloc::{AllocError, Global};
-use std::collections::VecDeque;
 
-/// The channels of one network, of any length. Each message in them names caches and ways of the
-/// configuration alone.
+/// The channels of one network, of any length, at most 64 of them. Each message in them names caches and
+/// ways of the configuration alone.
 #[derive(Drop)]
 pub struct Channels {
     pub(crate) config: Config,
-    queues: Vec<VecDeque<Message>>,
+    queues: Vec<Channel>,
+    /// Bit c is set where channel c holds a message.
+    marks: u64,
+    ghost few: { vec_len queues ≤ 64 },
     ghost within: { AreWithin config (queues_of queues.items) } by { AreWithin-prop config (queues_of queues.items) },
+    ghost marked: { AreMarks marks (queues_of queues.items) },
 }
 
 impl Channels {
-    ghost use Rattle.bk_system.specs.Channels.{queue, room, channel_count};
+    ghost use Rattle.bk_system.specs.Channels.{queue, room, channel_count, IsNext};
 
     /// So many channels, each empty.
     pub fn make(alloc: Global, config: Config, count: u8) -> Result<Channels, AllocError>
+        requires { count ≤ 64 }
         ensures count { IfOk result (λ channels. channel_count channels ≡ count) }
         ensures empty { IfOk result (λ channels. queue channels ≡ λ c. []) }
         ensures config { IfOk result (λ channels. channels.config ≡ config) }
     {
         let mut queues = Vec::new(alloc);
         for _ in 0..count {
-            queues.push(VecDeque::new(alloc))?;
+            queues.push(Channel::make(alloc)?)?;
         }
-        Ok(Channels { config, queues })
+        Ok(Channels {
+            config,
+            queues,
+            marks: 0,
+        })
     }
 
     /// Makes room for so many messages more in a channel. Nothing changes where memory runs out.
@@ -59,13 +69,13 @@ impl Channels {
         ensures config { self.new.config ≡ self.old.config }
     {
         let queue = &mut self.queues[channel as usize];
-        queue.push_back_reserved(*message);
+        queue.push(message);
+        self.marks = marked(self.marks, channel, true);
     }
 
     /// Takes the head of a channel off, if there is one.
-    pub fn pop(&mut self, channel: u8) -> Option<Message>
+    pub fn drop_head(&mut self, channel: u8)
         requires { channel < channel_count self.old }
-        ensures head { result ≡ slice_get (queue self.old channel) 0 }
         ensures rest { queue self.new ≡ put (queue self.old) channel (drop 1 (queue self.old channel)) }
         ensures own { queue self.new channel ≡ drop 1 (queue self.old channel) }
         ensures grows { (c : ℕ) → room self.old c ≤ room self.new c }
@@ -73,7 +83,9 @@ impl Channels {
         ensures config { self.new.config ≡ self.old.config }
     {
         let queue = &mut self.queues[channel as usize];
-        queue.pop_front()
+        queue.drop_head();
+        let holds = !queue.is_empty();
+        self.marks = marked(self.marks, channel, holds);
     }
 
     /// The head of a channel; none for a number that no channel has.
@@ -83,22 +95,24 @@ impl Channels {
     {
         if (channel as usize) < self.queues.len() {
             let queue = &self.queues[channel as usize];
-            queue.front()
+            queue.head()
         } else {
             None
         }
+    }
+
+    /// The least channel at or above a number that holds a message.
+    pub fn next(&self, from: u8) -> Option<u8>
+        ensures { MatchOption result ((c : ℕ) → from ≤ c → queue self.now c ≡ [])
+            (λ c. IsNext (queue self.now) (channel_count self.now) from c) }
+    {
+        first_bit(self.marks, from)
     }
 
     /// Whether all channels are empty.
     pub fn is_empty(&self) -> bool
         ensures { result ≡ all_below (channel_count self.now) (λ c. is_nil (queue self.now c)) }
     {
-        for channel in 0..self.queues.len() {
-            let queue = &self.queues[channel];
-            if !queue.is_empty() {
-                return false;
-            }
-        }
-        true
+        self.next(0).is_none()
     }
 }

@@ -15,7 +15,7 @@ use bk_msg::Message;
 use std::alloc::{AllocError, Global};
 
 /// How many fill channels there are: one for each receiver and sender of eight.
-const FILL_CHANNELS: u8 = 64;
+pub(crate) const FILL_CHANNELS: u8 = 64;
 
 /// The caches, the engine and the memory of a system, the channels between them, and what has happened in
 /// it. Contracts see the state that it stands for, as `state_of` tells, and its configuration.

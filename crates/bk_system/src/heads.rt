@@ -1,7 +1,8 @@
-ghost use Rattle.std.specs.Prelude.{◌≡◌, ◌<◌, ◌≤◌, ◌++◌, IfSome, slice_get, vec_len, vec_capacity};
+ghost use Rattle.std.specs.Prelude.{◌≡◌, ◌==◌, ◌&&◌, ◌<◌, ◌≤◌, ◌++◌, Some, IfSome, slice_get, vec_len, vec_capacity};
 ghost use Rattle.std.specs.Option.{option_copied};
 ghost use Rattle.bk_msg.specs.Within.{IsWithin};
 ghost use Rattle.bk_system.specs.Channels.{queue, channel_count};
+ghost use Rattle.bk_engine.specs.declared.parts.TheConstants.{CLASS_NONE};
 ghost use Rattle.bk_system.specs.Runs.{names_requests};
 ghost use Rattle.bk_system.specs.Events.{is_wait, is_choice, offered_among, origins_of, heads_left, memin_left};
 
@@ -37,14 +38,30 @@ pub(crate) fn names_requests(program: &[Instr], place: u32) -> bool
     }
 }
 
-/// Whether the instruction at a place may be run with a choice: at `wfq` any, else class 0 with source 0 alone.
+/// Whether a choice names no channel: class 0 with source 0.
+pub(crate) fn names_none(choice: Choice) -> bool
+    ensures { result ≡ (choice.class == CLASS_NONE && choice.source == 0) }
+{
+    choice.class == CLASS_NONE && choice.source == 0
+}
+
+/// Whether an instruction may be run with a choice: `wfq` with any, another with one that names no channel.
+pub(crate) fn may_choose(form: Form, choice: Choice) -> bool
+    ensures { result ≡ is_choice (Some form) choice }
+{
+    match form {
+        Form::Wfq { .. } => true,
+        _ => names_none(choice),
+    }
+}
+
+/// Whether the instruction at a place may be run with a choice. Where there is none, as one that isn't `wfq`.
 pub(crate) fn is_choice(program: &[Instr], place: u32, choice: Choice) -> bool
     ensures { result ≡ is_choice (slice_get program.now place) choice }
 {
-    if is_wait(program, place) {
-        true
-    } else {
-        choice.class == CLASS_NONE && choice.source == 0
+    match program.get(place as usize) {
+        None => names_none(choice),
+        Some(instr) => may_choose(instr.form(), choice),
     }
 }
 
@@ -74,33 +91,16 @@ pub(crate) fn offered<'a>(
     }
 }
 
-/// A copy of the head that a choice names.
-pub(crate) fn head_of(
-    responses: &Channels,
-    memin: &Channels,
-    requests: &Channels,
-    choice: Choice,
-) -> Option<Message>
-    requires memin { memin.now.config ≡ responses.now.config }
-    requires requests { requests.now.config ≡ responses.now.config }
-    ensures { result ≡ offered_among (queue responses.now) (queue memin.now 0) (queue requests.now) choice }
-{
-    match offered(responses, memin, requests, choice) {
-        None => None,
-        Some(message) => Some(*message),
-    }
-}
-
 /// Notes the cache and the way group of a popped head, where it has this number as a head. Room was made.
 pub(crate) fn note_origin(
     origins: &mut Vec<Origin>,
     config: Config,
     number: u8,
     source: u8,
-    head: &Option<Message>,
+    head: Option<&Message>,
 )
     requires { vec_len origins.old < vec_capacity origins.old }
-    ensures { origins.new.items ≡ origins.old.items ++ origins_of config number source head.now }
+    ensures { origins.new.items ≡ origins.old.items ++ origins_of config number source (option_copied head.entry) }
 {
     let Some(message) = head else {
         return;
@@ -126,7 +126,7 @@ pub(crate) fn take_off(channels: &mut Channels, class: u8, choice: Choice)
     ensures config { channels.new.config ≡ channels.old.config }
 {
     if choice.class == class {
-        let _ = channels.pop(choice.source);
+        channels.drop_head(choice.source);
     }
 }
 
@@ -138,6 +138,6 @@ pub(crate) fn take_answer_off(memin: &mut Channels, choice: Choice)
     ensures config { memin.new.config ≡ memin.old.config }
 {
     if choice.class == CLASS_MEMORY {
-        let _ = memin.pop(0);
+        memin.drop_head(0);
     }
 }

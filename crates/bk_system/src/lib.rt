@@ -2,16 +2,20 @@
 #![tactic(auto)]
 
 mod any_event;
+mod bits;
 mod bounds;
 mod cache_events;
 mod caches;
+mod channel;
 mod channels;
 mod engine_event;
 mod event;
 mod hardware;
 mod heads;
+mod lookups;
 mod memory;
 mod memory_event;
+mod needs;
 mod quiet;
 mod sending;
 

@@ -39,11 +39,10 @@ impl Hardware {
         let Some(message) = self.memout.head(0) else {
             return Ok(false);
         };
-        let message = *message;
         self.memin.reserve(0, 1)?;
-        let answer = self.memory.apply(&message)?;
+        let answer = self.memory.apply(message)?;
         send_answer(&mut self.memin, &answer);
-        let _ = self.memout.pop(0);
+        self.memout.drop_head(0);
         put_sent(&mut self.sent, &answer);
         Ok(true)
     }

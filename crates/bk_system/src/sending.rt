@@ -1,20 +1,23 @@
-ghost use Rattle.std.specs.Prelude.{◌≡◌, ◌+◌, ◌<◌, ◌≤◌, ℕ, List, OnOk, Some, [], ◌∷◌, length, All, vec_len, vec_capacity, ◌++◌};
+ghost use Rattle.std.specs.Prelude.{◌≡◌, ◌+◌, ◌<◌, ◌≤◌, ℕ, List, OnOk, IfSome, Some, [], ◌∷◌, All, vec_len, vec_capacity, ◌++◌};
 ghost use Rattle.std.specs.Option.{option_to_list};
 ghost use Rattle.bk_base.specs.declared.op.Done.{Done};
 ghost use Rattle.bk_msg.specs.Within.{IsWithin};
+ghost use Rattle.bk_msg.specs.Networks.{network_of, receiver_of};
+ghost use Rattle.bk_msg.specs.declared.row.Network.TheVariants.{Request, Response, Fill};
 ghost use Rattle.bk_msg.specs.declared.row.Row.{Row};
 ghost use Rattle.bk_engine.specs.Step.{IsOutward};
 ghost use Rattle.bk_system.specs.Channels.{queue, room, channel_count};
 ghost use Rattle.bk_system.specs.Events.{requests_with, responses_with, fills_with, commands_with, memout_with};
+ghost use Rattle.bk_system.specs.Needs.{command_count, memory_count};
 ghost use Rattle.bk_system.specs.Numbering.{fill_place, fills_of, AreCounts};
 
 use crate::channels::Channels;
 use bk_base::{Done, Op};
-use bk_msg::{Message, Network, Row};
+use bk_msg::{Message, Network};
 use std::alloc::AllocError;
 
 /// How many senders the fill channels of a receiver have room for.
-const SENDERS: u8 = 8;
+pub(crate) const SENDERS: u8 = 8;
 
 /// The place of the fill channel to a cache from another.
 pub(crate) fn fill_place(to: u8, from: u8) -> u8
@@ -26,73 +29,61 @@ pub(crate) fn fill_place(to: u8, from: u8) -> u8
     to * SENDERS + from
 }
 
-/// Puts what a cache sends into its channel of requests, where it is one. Room was made.
-pub(crate) fn send_request(requests: &mut Channels, cache: u8, sent: Option<Message>)
-    requires room { 1 ≤ room requests.old cache }
-    requires within { (m : Row) → sent ≡ Some m → IsWithin requests.old.config m }
-    ensures queue { queue requests.new ≡ requests_with cache sent (queue requests.old) }
-    ensures count { channel_count requests.new ≡ channel_count requests.old }
-    ensures config { requests.new.config ≡ requests.old.config }
-{
-    let Some(message) = sent else {
-        return;
-    };
-    if matches!(message.row().network(), Network::Request) {
-        requests.push(cache, &message);
-    }
-}
-
-/// Puts what a cache sends into its channel of responses, where it is one. Room was made.
-pub(crate) fn send_response(responses: &mut Channels, cache: u8, sent: Option<Message>)
-    requires room { 1 ≤ room responses.old cache }
-    requires within { (m : Row) → sent ≡ Some m → IsWithin responses.old.config m }
-    ensures queue { queue responses.new ≡ responses_with cache sent (queue responses.old) }
-    ensures count { channel_count responses.new ≡ channel_count responses.old }
-    ensures config { responses.new.config ≡ responses.old.config }
-{
-    let Some(message) = sent else {
-        return;
-    };
-    if matches!(message.row().network(), Network::Response) {
-        responses.push(cache, &message);
-    }
-}
-
-/// Puts what a cache sends into the fill channel to its receiver, where it is a fill. Room was made.
-pub(crate) fn send_fill(fills: &mut Channels, cache: u8, sent: Option<Message>)
+/// Puts what a cache sends, if anything, at the end of its channel, by the message's network. Room was made.
+pub(crate) fn send(
+    requests: &mut Channels,
+    responses: &mut Channels,
+    fills: &mut Channels,
+    cache: u8,
+    sent: &Option<Message>,
+)
     requires cache { cache < 8 }
     requires caches { fills.old.config.caches ≤ 8 }
-    requires room { (to : ℕ) → to < fills.old.config.caches → 1 ≤ room fills.old (fill_place to cache) }
-    requires within { (m : Row) → sent ≡ Some m → IsWithin fills.old.config m }
-    ensures queue { fills_of (queue fills.new) ≡ fills_with cache sent (fills_of (queue fills.old)) }
-    ensures count { channel_count fills.new ≡ channel_count fills.old }
-    ensures config { fills.new.config ≡ fills.old.config }
+    requires requests_config { requests.old.config ≡ fills.old.config }
+    requires responses_config { responses.old.config ≡ fills.old.config }
+    requires request { (m : Row) → sent.now ≡ Some m → network_of m ≡ Request → 1 ≤ room requests.old cache }
+    requires response { (m : Row) → sent.now ≡ Some m → network_of m ≡ Response → 1 ≤ room responses.old cache }
+    requires fill { (m : Row) → sent.now ≡ Some m → network_of m ≡ Fill → 1 ≤ room fills.old (fill_place (receiver_of m) cache) }
+    requires within { (m : Row) → sent.now ≡ Some m → IsWithin fills.old.config m }
+    ensures requests { queue requests.new ≡ requests_with cache sent.now (queue requests.old) }
+    ensures responses { queue responses.new ≡ responses_with cache sent.now (queue responses.old) }
+    ensures fills { fills_of (queue fills.new) ≡ fills_with cache sent.now (fills_of (queue fills.old)) }
+    ensures requests_count { channel_count requests.new ≡ channel_count requests.old }
+    ensures responses_count { channel_count responses.new ≡ channel_count responses.old }
+    ensures fills_count { channel_count fills.new ≡ channel_count fills.old }
+    ensures requests_config { requests.new.config ≡ requests.old.config }
+    ensures responses_config { responses.new.config ≡ responses.old.config }
+    ensures fills_config { fills.new.config ≡ fills.old.config }
 {
     let Some(message) = sent else {
         return;
     };
-    if let Row::Fill { to, .. } = message.row() {
-        fills.push(fill_place(to, cache), &message);
+    match message.row().network() {
+        Network::Request => requests.push(cache, message),
+        Network::Response => responses.push(cache, message),
+        Network::Fill => fills.push(fill_place(message.row().receiver(), cache), message),
+        _ => (),
     }
 }
 
-/// Makes room for a message in each fill channel from a cache. Nothing changes where memory runs out.
-pub(crate) fn reserve_fills(fills: &mut Channels, caches: u8, from: u8) -> Result<(), AllocError>
-    requires caches { caches ≤ 8 }
-    requires from { from < 8 }
+/// Makes room for a message in the fill channel to a peer, if there is one, from a cache. Nothing changes where memory runs out.
+pub(crate) fn reserve_fill(
+    fills: &mut Channels,
+    peer: Option<u8>,
+    cache: u8,
+) -> Result<(), AllocError>
+    requires peer { IfSome peer (λ to. to < 8) }
+    requires cache { cache < 8 }
     requires count { channel_count fills.old ≡ 64 }
     ensures queue { queue fills.new ≡ queue fills.old }
-    ensures room { OnOk result ((to : ℕ) → to < caches → 1 ≤ room fills.new (fill_place to from)) }
+    ensures room { OnOk result (IfSome peer (λ to. 1 ≤ room fills.new (fill_place to cache))) }
     ensures count { channel_count fills.new ≡ channel_count fills.old }
     ensures config { fills.new.config ≡ fills.old.config }
 {
-    for to in 0..caches {
-        match fills.reserve(fill_place(to, from), 1) {
-            Ok(()) => (),
-            Err(e) => return Err(e),
-        }
+    match peer {
+        None => Ok(()),
+        Some(to) => fills.reserve(fill_place(to, cache), 1),
     }
-    Ok(())
 }
 
 /// Makes room for so many messages in each of the channels. Nothing changes where memory runs out.
@@ -165,15 +156,15 @@ pub(crate) fn add_done(
 
 /// Puts a message of the engine at the end of its channel. Room was made.
 fn send_one(commands: &mut Channels, memout: &mut Channels, message: &Message)
-    requires commands_room { (c : ℕ) → c < commands.old.config.caches → 1 ≤ room commands.old c }
-    requires memout_room { 1 ≤ room memout.old 0 }
+    requires commands_room { (c : ℕ) → c < commands.old.config.caches → command_count (message.now ∷ []) ≤ room commands.old c }
+    requires memout_room { memory_count (message.now ∷ []) ≤ room memout.old 0 }
     requires within { IsWithin commands.old.config message.now }
     requires same { memout.old.config ≡ commands.old.config }
     ensures commands { (ms : List Row) → commands_with ms (queue commands.new)
         ≡ commands_with (message.now ∷ ms) (queue commands.old) }
     ensures memout { (ms : List Row) → memout_with ms (queue memout.new 0) ≡ memout_with (message.now ∷ ms) (queue memout.old 0) }
-    ensures commands_room { (c : ℕ) → room commands.old c ≤ room commands.new c + 1 }
-    ensures memout_room { (c : ℕ) → room memout.old c ≤ room memout.new c + 1 }
+    ensures commands_room { (c : ℕ) → room commands.old c ≤ room commands.new c + command_count (message.now ∷ []) }
+    ensures memout_room { (c : ℕ) → room memout.old c ≤ room memout.new c + memory_count (message.now ∷ []) }
     ensures commands_count { channel_count commands.new ≡ channel_count commands.old }
     ensures memout_count { channel_count memout.new ≡ channel_count memout.old }
     ensures commands_config { commands.new.config ≡ commands.old.config }
@@ -186,10 +177,11 @@ fn send_one(commands: &mut Channels, memout: &mut Channels, message: &Message)
     }
 }
 
-/// Puts the messages of the engine at the ends of their channels, one after the other. Room was made.
+/// Puts the messages of the engine at the ends of their channels, one after the other. Room was made: in each command channel for all
+/// that go to caches, and in that to the memory for those that go there.
 pub(crate) fn send_all(commands: &mut Channels, memout: &mut Channels, sent: &[Message])
-    requires commands_room { (c : ℕ) → c < commands.old.config.caches → length sent.now ≤ room commands.old c }
-    requires memout_room { length sent.now ≤ room memout.old 0 }
+    requires commands_room { (c : ℕ) → c < commands.old.config.caches → command_count sent.now ≤ room commands.old c }
+    requires memout_room { memory_count sent.now ≤ room memout.old 0 }
     requires within { All (IsOutward commands.old.config) sent.now }
     requires same { memout.old.config ≡ commands.old.config }
     ensures commands { queue commands.new ≡ commands_with sent.now (queue commands.old) }

@@ -5,8 +5,15 @@ use Rattle.bk_lce.specs.CacheTable as table
 use Rattle.bk_system.specs.CacheStates.{states_of}
 use Rattle.bk_system.specs.Systems.{state_of}
 use Rattle.bk_system.specs.Events.{cache_row}
+use Rattle.bk_system.proofs.Answered.{issue-room}
 use Rattle.bk_system.proofs.CacheRows.{issue-row, caches-kept}
 use Rattle.bk_system.proofs.hardware.Hardware.take_operation.Goals as goal
+
+pub conclude-requires-clause-room : goal.conclude-requires-clause-room
+conclude-requires-clause-room c =
+    issue-room _ c.args.self.now.caches.config (states_of c.args.self.now.caches c.args.cache)
+    (states_of c.issue_at.new.self c.args.cache) c.args.cache c.args.op c.args.way c.in-Ok.step c.in-Ok.ensures.gives
+    c.requires.request c.requires.history
 
 pub returns-in-Err-clause-happens : goal.returns-in-Err-clause-happens
 returns-in-Err-clause-happens c =
