@@ -6,6 +6,8 @@ ghost use Rattle.bk_lce.specs.Policies.{IsPolicy};
 ghost use Rattle.bk_coherent.specs.Coherent.{StaysCoherent};
 ghost use Rattle.bk_outer.specs.Counts.{Rose};
 ghost use Rattle.bk_cmd.specs.Outcomes.{LeavesRest, is_after_run, is_after_write};
+ghost use Rattle.bk_run.specs.Jobs.{job_of};
+ghost use Rattle.bk_run.specs.Serial.{IsEnded, IsFault};
 ghost use Rattle.bk_run.specs.Report.{IsReport};
 ghost use Rattle.bk_cmd.specs.Replays.{RunEnds, EndsShort, AreEvents, IsRunFault, IsDue, log_due, Reported, ReportedPart};
 
@@ -13,32 +15,23 @@ use crate::inputs::Inputs;
 use crate::outcome::{MEMORY, OK, Outcome, SPENT, Stop, WRITE_FAULT, ended, stopped};
 use crate::words::Output;
 use crate::writing::deliver;
+use bk_image::Image;
 use bk_lce::{Victim, WayView};
 use bk_outer::Sink;
-use bk_run::{ReportedRun, SerialFault, budget, log, serial_report};
-use bk_system::Event;
-use std::alloc::{AllocError, Global};
-
-/// The log of the run of these events, or nothing where it isn't asked for.
-fn log_due(alloc: Global, inputs: &Inputs, events: &[Event]) -> Result<Vec<u8>, AllocError>
-    ensures { IfOk result (λ v. v.items ≡ log_due inputs.now.output inputs.now.image inputs.now.trace events.now) }
-{
-    match inputs.output {
-        Output::Report => Ok(Vec::new(alloc)),
-        Output::LogAndReport => log(alloc, inputs.image.image(), &inputs.trace, events),
-    }
-}
+use bk_run::{LoggedRun, SerialFault, budget, serial_log, serial_report};
+use bk_trace::Trace;
+use std::alloc::Global;
 
 /// Writes what is due of a complete run.
 fn write_texts<K: Sink, F: Fn(&[WayView]) -> u8 + Copy + Send>(
-    alloc: Global,
     inputs: &Inputs,
     victim: &Victim<F>,
-    run: ReportedRun,
+    run: LoggedRun,
     sink: &mut K,
 ) -> Outcome
     requires ended { RunEnds (FnReturnsAt F.Fn victim.now.pick) inputs.now.image inputs.now.trace run.end.events.items true }
     requires coherent { StaysCoherent inputs.now.trace.config inputs.now.image.instrs run.end.events.items }
+    requires log { run.log.items ≡ log_due inputs.now.output inputs.now.image inputs.now.trace run.end.events.items }
     requires report { IsReport inputs.now.trace.config inputs.now.image.instrs inputs.now.trace.lines run.end.events.items
         run.report.items }
     ensures ok { result.status ≡ OK →
@@ -58,23 +51,52 @@ fn write_texts<K: Sink, F: Fn(&[WayView]) -> u8 + Copy + Send>(
     ensures rest { LeavesRest result }
     ensures faults_kept { K.faults sink.old ≤ K.faults sink.new }
 {
-    let ReportedRun { end, report } = run;
-    match log_due(alloc, inputs, &end.events) {
-        Ok(log) => deliver(sink, &log, &report, end.events),
-        Err(_) => ended(MEMORY, end.events, 0),
+    let LoggedRun { end, log, report } = run;
+    deliver(sink, &log, &report, end.events)
+}
+
+/// Runs the greedy schedule to its end or to the budget, with the report, and with the log where it is asked for.
+fn run_within<F: Fn(&[WayView]) -> u8 + Copy + Send>(
+    alloc: Global,
+    output: Output,
+    image: &Image,
+    trace: &Trace,
+    victim: &Victim<F>,
+    events_limit: u64,
+) -> Result<LoggedRun, SerialFault>
+    requires { IsPolicy F.Fn victim.now.pick }
+    ensures ok { IfOk result (λ run.
+        IsEnded (job_of (FnReturnsAt F.Fn victim.now.pick) image.now.instrs trace.now events_limit) run.end.events.items run.end.complete) }
+    ensures log { IfOk result (λ run. run.log.items ≡ log_due output image.now trace.now run.end.events.items) }
+    ensures report { IfOk result (λ run.
+        IsReport trace.now.config image.now.instrs trace.now.lines run.end.events.items run.report.items) }
+    ensures fault { IfErr result (IsFault (job_of (FnReturnsAt F.Fn victim.now.pick) image.now.instrs trace.now events_limit)) }
+{
+    match output {
+        Output::Report => match serial_report(alloc, image, trace, victim, events_limit) {
+            Ok(run) => Ok(LoggedRun {
+                end: run.end,
+                log: Vec::new(alloc),
+                report: run.report,
+            }),
+            Err(e) => Err(e),
+        },
+        Output::LogAndReport => serial_log(alloc, image, trace, victim, events_limit),
     }
 }
 
-/// Runs the greedy schedule within the budget of the image and the trace, with its report.
+/// Runs the greedy schedule within the budget of the image and the trace, with what is due of the run.
 fn run<F: Fn(&[WayView]) -> u8 + Copy + Send>(
     alloc: Global,
     inputs: &Inputs,
     victim: &Victim<F>,
-) -> Result<ReportedRun, SerialFault>
+) -> Result<LoggedRun, SerialFault>
     requires { IsPolicy F.Fn victim.now.pick }
     ensures ok { IfOk result (λ run.
         RunEnds (FnReturnsAt F.Fn victim.now.pick) inputs.now.image inputs.now.trace run.end.events.items run.end.complete) }
     ensures coherent { IfOk result (λ run. StaysCoherent inputs.now.trace.config inputs.now.image.instrs run.end.events.items) }
+    ensures log { IfOk result (λ run.
+        run.log.items ≡ log_due inputs.now.output inputs.now.image inputs.now.trace run.end.events.items) }
     ensures report { IfOk result (λ run.
         IsReport inputs.now.trace.config inputs.now.image.instrs inputs.now.trace.lines run.end.events.items run.report.items) }
     ensures err { IfErr result (IsRunFault (FnReturnsAt F.Fn victim.now.pick) inputs.now.image inputs.now.trace) }
@@ -83,7 +105,14 @@ fn run<F: Fn(&[WayView]) -> u8 + Copy + Send>(
     let instructions = image.instrs().len() as u64;
     let operations = inputs.trace.lines().len() as u64;
     let events_limit = budget(inputs.trace.config(), instructions, operations);
-    serial_report(alloc, image, &inputs.trace, victim, events_limit)
+    run_within(
+        alloc,
+        inputs.output,
+        image,
+        &inputs.trace,
+        victim,
+        events_limit,
+    )
 }
 
 /// Runs the greedy schedule, and writes what is due of a complete run.
@@ -116,11 +145,11 @@ pub(crate) fn replay<K: Sink, F: Fn(&[WayView]) -> u8 + Copy + Send>(
     ensures faults_kept { K.faults sink.old ≤ K.faults sink.new }
 {
     match run(alloc, inputs, victim) {
-        Ok(reported) => {
-            if reported.end.complete {
-                write_texts(alloc, inputs, victim, reported, sink)
+        Ok(run) => {
+            if run.end.complete {
+                write_texts(inputs, victim, run, sink)
             } else {
-                ended(SPENT, reported.end.events, 0)
+                ended(SPENT, run.end.events, 0)
             }
         }
         Err(SerialFault::Spent(end)) => ended(SPENT, end.events, 0),

@@ -1,5 +1,7 @@
 //! Drawn runs under two protocols, runs of images that are refused, and logs of given events.
 
+ghost use Rattle.bk_lce.specs.Policies.{IsPolicy};
+
 use super::tests::{NOP, asked, shelf as shelf_of, words, words_of};
 use super::*;
 use crate::programs::image_named;
@@ -7,9 +9,9 @@ use bk_base::Op;
 use bk_check::Refusal;
 use bk_engine::Choice;
 use bk_image::{read_image, write_image};
-use bk_lce::{Victim, WayView, oldest};
+use bk_lce::{Victim, WayView, oldest, pinned};
 use bk_outer::MemSink;
-use bk_run::{RunEnd, budget, log, report, serial};
+use bk_run::{RunEnd, budget, log, report, serial, serial_report};
 use bk_sound::certify;
 use bk_system::Event;
 use bk_trace::read_trace;
@@ -178,7 +180,7 @@ fn after_two_loads(alloc: Global, text: &str) -> Result<(Vec<u8>, Vec<u8>), Fail
         if cache >= trace.config().caches {
             break;
         }
-        if let Some(op) = trace.operations(cache).get(number) {
+        if let Some(op) = trace.operation(cache, number) {
             push_issue(&mut events, cache, op, sweeps)?;
         }
     }
@@ -194,6 +196,38 @@ fn has_line(log: &[u8], beginning: &str) -> bool {
 }
 
 // Two stores of sharers: the second cache is invalidated while its request waits, and is then filled, not woken.
+/// The report of three stores under `mesi` to one set of two ways, each to a block of its own, with a victim policy.
+fn report_of_three_stores<F: Fn(&[WayView]) -> u8 + Copy + Send>(
+    alloc: Global,
+    victim: &Victim<F>,
+) -> Result<Vec<u8>, Fail>
+    requires { IsPolicy F.Fn victim.now.pick }
+{
+    let image = read_image(alloc, &image_named(alloc, "mesi")?)?;
+    let text = "config 1 1 2\n0 S 0x0 1\n0 S 0x40 2\n0 S 0x80 3\n";
+    let trace = read_trace(alloc, text.as_bytes())?;
+    match serial_report(alloc, &image, &trace, victim, 1000) {
+        Ok(run) => Ok(run.report),
+        Err(_) => Err(Fail::from("the run has no end")),
+    }
+}
+
+#[test]
+fn the_stored_policy_is_asked(rt: HostRuntime) -> Result<(), Fail> {
+    let alloc = rt.alloc();
+    let victim = Victim::store(|views: &[WayView]| oldest(views));
+    let report = report_of_three_stores(alloc, &victim)?;
+    let lines = "cache 0 set 0 way 0 tag 0x2 M\ncache 0 set 0 way 1 tag 0x1 M\nend rested\n";
+    assert!(rt; report.ends_with(lines.as_bytes()));
+    let way = 1u8;
+    let victim = Victim::store(move |views: &[WayView]| -> u8 { pinned(views, way) });
+    let report = report_of_three_stores(alloc, &victim)?;
+    let line = "cache 0 set 0 way 1 tag 0x2 M\nend rested\n";
+    assert!(rt; report.ends_with(line.as_bytes()));
+    assert!(rt; !has_line(&report, "cache 0 set 0 way 0"));
+    Ok(())
+}
+
 #[test]
 fn two_sharers_store(rt: HostRuntime) -> Result<(), Fail> {
     let text = "config 2 1 1\n0 L 0x0\n1 L 0x0\n0 S 0x0 5\n1 S 0x0 6\n";

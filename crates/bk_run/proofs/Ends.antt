@@ -6,19 +6,20 @@ use Rattle.bk_base.specs.Places.{Shape}
 use Rattle.bk_base.specs.declared.op.Op.{Op}
 use Rattle.bk_base.specs.declared.op.Done.{Done}
 use Rattle.bk_isa.specs.declared.form.Form.{Form}
+use Rattle.bk_trace.specs.Traces.{operations_of}
 use Rattle.bk_system.specs.declared.event.Event.{Event}
 use Rattle.bk_run.specs.declared.counts.Counts.{Counts}
 use Rattle.bk_base.specs.Counting.{or_else, first_below}
 use Rattle.bk_system.specs.State.{State}
-use Rattle.bk_system.specs.Runs.{run, is_rested, IsComplete}
+use Rattle.bk_system.specs.Runs.{run, completed_by, is_rested, IsComplete}
 use Rattle.bk_run.specs.Jobs.{Job}
 use Rattle.bk_run.specs.Greedy.{ready_operation, issue_with, least_other, least_enabled, IsLeast, IsEnd, IsGreedy}
 use Rattle.bk_run.specs.Serial.{IsGreedyRun, IsEnded, IsSpent}
 use Rattle.bk_run.specs.Report.{IsReport, counts_of, report_text}
-use Rattle.bk_run.specs.Completion.{IsDone}
+use Rattle.bk_run.specs.Completion.{IsDone, IsFinished}
 use Rattle.bk_run.proofs.Prefixes.{complete-from}
 use Rattle.bk_run.proofs.Tight.{greedy-tight}
-use Rattle.bk_run.proofs.InOrder.{greedy-in_order}
+use Rattle.bk_run.proofs.InOrder.{greedy-in_order, greedy-completed, prefix-whole}
 
 -- whether the trace is done, told of the system that made the events
 pub told-from : (k config : Shape) (program : List Form) (lines : List (ℕ × Op)) (events given : List Event) (history : List Done)
@@ -30,19 +31,33 @@ told-from k config program lines events given history s rested b g c e h r done 
     ∙ ap (λ (shape : Shape). is_rested shape program s) c ∙ ap (is_rested k program) e)
     (subst (λ (es : List Event). IsTrue b ↔ IsDone k lines es history rested) g done)
 
+-- What is asked after a greedy list of events tells whether it does all of the trace.
+finished-told : (job : Job) (events : List Event) (b : Bool) → IsGreedy job events
+    → (IsTrue b ↔ IsFinished job.config job.program job.operations (run job.config job.program events))
+    → (IsTrue b ↔ IsComplete job.config job.program job.operations events)
+finished-told job events b greedy finished = (
+  λ h. let known = finished.0 h in record {
+    in_order = greedy-in_order job events greedy;
+    whole = λ c below. prefix-whole (completed_by c (run job.config job.program events).history) (operations_of c job.operations)
+        (greedy-completed job events greedy c) (known.as_many c below);
+    rested = known.rested;
+  },
+  λ complete. finished.1 (record { rested = complete.rested; as_many = λ c below. ap length (complete.whole c below) }),
+)
+
 -- a greedy list that keeps to the limit, told of the system that made the events
-pub made-run : (job : Job) (k : Shape) (events given : List Event) (history : List Done) (s : State) (rested b : Bool)
-    → IsGreedy job events → length events ≤ job.limit → given ≡ events → k ≡ job.config
-    → s ≡ run job.config job.program events
-    → history ≡ s.history → rested ≡ is_rested k job.program s
-    → (IsTrue b ↔ IsDone job.config job.operations given history rested)
+pub made-run : (job : Job) (k : Shape) (events : List Event) (s : State) (b : Bool)
+    → IsGreedy job events → length events ≤ job.limit → k ≡ job.config → s ≡ run job.config job.program events
+    → (IsTrue b ↔ IsFinished k job.program job.operations s)
     → IsGreedyRun job events b
-made-run job k events given history s rested b greedy few g c e h r done = record {
+made-run job k events s b greedy few c e finished = record {
   greedy = greedy;
   few = few;
   tight = greedy-tight job events greedy;
   in_order = greedy-in_order job events greedy;
-  told = told-from job.config k job.program job.operations events given history s rested b g c e h r done;
+  told = finished-told job events b greedy
+      (subst (λ (later : State). IsTrue b ↔ IsFinished job.config job.program job.operations later) e
+      (subst (λ (config : Shape). IsTrue b ↔ IsFinished config job.program job.operations s) c finished));
 }
 
 -- an event that is the least with one way is no end: whether there is one doesn't depend on the way

@@ -1,5 +1,5 @@
--- A greedy list has each cache issue its operations of the trace in order.
-use Rattle.std.proofs.Common.{◌≡◌, ℕ, List, [], ◌∷◌, ◌++◌, Bool, true, false, ◌&&◌, cond, eqb, Option, Some, None, refl, ap, sym, subst, ◌∙◌, ◌⊎◌, inl, inr, length, append_assoc}
+-- A greedy list has each cache issue its operations of the trace in order, and what it has completed are the first of them.
+use Rattle.std.proofs.Common.{◌≡◌, ℕ, List, [], ◌∷◌, ◌++◌, Bool, true, false, ◌&&◌, cond, eqb, Option, Some, None, refl, ap, sym, subst, ◌∙◌, ◌⊎◌, inl, inr, length, append_assoc, arith}
 use Rattle.std.specs.Prelude.{if◌then◌else◌, IsTrue, slice_get, is_some, nat_lt}
 use Rattle.std.proofs.lemmas.Bool.{cases_eq, eq-eqb, ne_eqb}
 use Rattle.std.proofs.lemmas.List.{append-nil}
@@ -13,10 +13,10 @@ use Rattle.bk_system.specs.declared.event.Event.{Event}
 use Rattle.bk_system.specs.declared.event.Event.TheVariants.{Issue, Command, Fill, Memory, Engine}
 use Rattle.bk_system.specs.State.{State, opening}
 use Rattle.bk_system.specs.Events.{Happening, first, cache_row, issue_taken, command_of, command_taken, without_command, fill_of, fill_taken, without_fill, access_row, can_run}
-use Rattle.bk_system.specs.Runs.{is_enabled, after, state_after_row, issued_by, completed_by, IsPrefix, IsInOrder}
+use Rattle.bk_system.specs.Runs.{is_enabled, after, state_after_row, run_from, run, issued_by, completed_by, IsTightFrom, IsPrefix, IsInOrder}
 use Rattle.bk_run.specs.Jobs.{Job}
 use Rattle.bk_run.specs.Greedy.{next_operation, IsGreedyFrom, IsGreedy}
-use Rattle.bk_run.proofs.Tight.{IsPicked, Each, taken-picked, taken-some}
+use Rattle.bk_run.proofs.Tight.{IsPicked, Each, taken-picked, taken-some, greedy-tight}
 use Rattle.bk_run.proofs.Begun.{begun, operation_in, Moves, Begins, issue-begins, command-moves, fill-moves, with_taken-begun}
 
 -- what a cache issues in one event and those after it
@@ -202,3 +202,40 @@ greedy_from-in_order job c s (event ∷ events) h p =
 pub greedy-in_order : (job : Job) (events : List Event) → IsGreedy job events → IsInOrder job.config job.operations events
 greedy-in_order job events h c below =
     greedy_from-in_order job c (opening job.config) events h (operations_of c job.operations, refl)
+
+-- after a list of events, each of which was enabled, a cache has begun what it had, and what the events issue
+tight_from-begun : (c : ℕ) (k : Shape) (program : List Form) (s : State) (events : List Event) → IsTightFrom k program s events
+    → begun c (run_from k program s events) ≡ begun c s ++ issued_by c events
+tight_from-begun c k program s [] h = sym (append-nil (begun c s))
+tight_from-begun c k program s (event ∷ events) h =
+    tight_from-begun c k program (after k program s event) events h.1
+    ∙ ap (λ (xs : List Op). xs ++ issued_by c events) (enabled-begun c k program s event h.0)
+    ∙ append_assoc (begun c s) (issued_by c (event ∷ [])) (issued_by c events)
+    ∙ ap (λ (xs : List Op). begun c s ++ xs) (sym (issued_by-cons c event events))
+
+-- the first part of a prefix is one
+prefix-part : (xs more ys : List Op) → IsPrefix (xs ++ more) ys → IsPrefix xs ys
+prefix-part xs more ys p = (more ++ p.0, sym (append_assoc xs more p.0) ∙ p.1)
+
+-- what a cache has completed after a greedy list are the first of its operations in the trace
+pub greedy-completed : (job : Job) (events : List Event) → IsGreedy job events → (c : ℕ)
+    → IsPrefix (completed_by c (run job.config job.program events).history) (operations_of c job.operations)
+greedy-completed job events h c =
+    let s = run job.config job.program events in
+    let begun_all : begun c s ≡ begun c (opening job.config) ++ issued_by c events =
+    tight_from-begun c job.config job.program (opening job.config) events (greedy-tight job events h) in
+    let p : IsPrefix (begun c (opening job.config) ++ issued_by c events) (operations_of c job.operations) =
+    greedy_from-in_order job c (opening job.config) events h (operations_of c job.operations, refl) in
+    prefix-part (completed_by c s.history) (operation_in (s.caches c).busy) (operations_of c job.operations)
+    (subst (λ (xs : List Op). IsPrefix xs (operations_of c job.operations)) (sym begun_all) p)
+
+-- a prefix that is as long as the whole is the whole
+pub prefix-whole : (xs ys : List Op) → IsPrefix xs ys → length xs ≡ length ys → xs ≡ ys
+prefix-whole [] [] p e = refl
+prefix-whole [] (y ∷ ys) p e = absurd (omega (arith, e))
+prefix-whole (x ∷ xs) [] p e = absurd (omega (arith, e))
+prefix-whole (x ∷ xs) (y ∷ ys) p e =
+    let tail : IsPrefix xs ys = (p.0, cc (p.1)) in
+    let same : x ≡ y = cc (p.1) in
+    let count : length xs ≡ length ys = omega (arith, e) in
+    ap (λ (op : Op). op ∷ xs) same ∙ ap (λ (ops : List Op). y ∷ ops) (prefix-whole xs ys tail count)

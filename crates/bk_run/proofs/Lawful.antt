@@ -1,5 +1,5 @@
 -- The operations of a greedy list are its trace's, so each is at the address of a word.
-use Rattle.std.proofs.Common.{◌≡◌, ℕ, zero, suc, ◌<◌, ◌==◌, Bool, true, false, refl, subst, arith, List, [], ◌∷◌, length, Some, slice_get}
+use Rattle.std.proofs.Common.{◌≡◌, ℕ, zero, suc, ◌==◌, Bool, true, false, subst, arith, List, [], ◌∷◌, Some, slice_get}
 use Rattle.std.specs.Prelude.{if◌then◌else◌}
 use Rattle.std.specs.List.{All}
 use Rattle.bk_base.specs.Places.{IsAddr}
@@ -14,7 +14,7 @@ use Rattle.bk_system.specs.State.{State}
 use Rattle.bk_system.specs.Runs.{after}
 use Rattle.bk_run.specs.Jobs.{Job}
 use Rattle.bk_run.specs.Greedy.{IsGreedyFrom}
-use Rattle.bk_run.proofs.Tight.{IsNext, IsPicked, taken-picked}
+use Rattle.bk_run.proofs.Tight.{IsNext, taken-picked}
 
 first-of : {X : Type 0} (P : X → Type 0) (x : X) (xs : List X) → All P (x ∷ xs) → P x
 first-of P x xs h = h 0 x (omega arith)

@@ -1,12 +1,14 @@
 pub mod Begun
 pub mod CountBounds
 pub mod Ends
+pub mod Grows
 pub mod InOrder
 pub mod Issues
 pub mod Lawful
 pub mod Lines
 pub mod LogLines
 pub mod Logging
+pub mod Made
 pub mod Prefixes
 pub mod RowOne
 pub mod Scheduling

@@ -1,15 +1,16 @@
 -- A log that is made one event at a time.
-use Rattle.std.proofs.Common.{◌≡◌, ℕ, ◌+◌, ◌<◌, List, ◌++◌, ap, sym, ◌∙◌, length, get_or, drop, append_assoc}
+use Rattle.std.proofs.Common.{◌≡◌, ℕ, ◌+◌, ◌<◌, List, [], ◌∷◌, ◌++◌, Bool, true, false, refl, ap, sym, ◌∙◌, length, get_or, drop, append_assoc}
 use Rattle.std.proofs.Common.{take, flat_map, Option, Some, arith}
+use Rattle.std.proofs.lemmas.List.{append-nil}
 use Rattle.std.proofs.lemmas.Grind.{common_steps}
 use Rattle.bk_base.specs.Places.{Shape}
 use Rattle.bk_isa.specs.declared.form.Form.{Form}
 use Rattle.bk_msg.specs.declared.row.Row.{Row}
 use Rattle.bk_system.specs.declared.event.Event.{Event}
-use Rattle.bk_system.specs.State.{State}
+use Rattle.bk_system.specs.State.{State, opening}
 use Rattle.bk_system.specs.Events.{Happening, row}
-use Rattle.bk_system.specs.Runs.{after}
-use Rattle.bk_run.specs.Log.{ran_text, row_text, log_from}
+use Rattle.bk_system.specs.Runs.{after, run_from, run}
+use Rattle.bk_run.specs.Log.{ran_text, row_text, log_from, log_of, text_if}
 use Rattle.bk_run.proofs.Scheduling.{drop-here}
 
 module _ (k config : Shape) (program : List Form) (events : List Event) (i : ℕ) (event : Event) (s later : State) where
@@ -41,3 +42,33 @@ pub text-ran : (event : Event) (o : Option Happening) (s : State) (sent written 
     → o ≡ Some (record { state = s; sent = sent })
     → written ≡ sent → ran_text event written ≡ row_text event o
 text-ran event o s sent written e same = ap (ran_text event) same ∙ ap (row_text event) (sym e)
+
+-- the log of a list of events and of one more
+log_from-more : (k : Shape) (program : List Form) (s : State) (events : List Event) (event : Event)
+    → log_from k program s (events ++ event ∷ [])
+    ≡ log_from k program s events ++ row_text event (row k program (run_from k program s events) event)
+log_from-more k program s [] event = append-nil (row_text event (row k program s event))
+log_from-more k program s (e ∷ events) event =
+    let later : State = after k program s e in
+    ap (λ (text : List ℕ). row_text e (row k program s e) ++ text) (log_from-more k program later events event)
+    ∙ sym (append_assoc (row_text e (row k program s e)) (log_from k program later events)
+    (row_text event (row k program (run_from k program later events) event)))
+
+text_if-append : (wanted : Bool) (xs ys : List ℕ) → text_if wanted xs ++ text_if wanted ys ≡ text_if wanted (xs ++ ys)
+text_if-append true xs ys = refl
+text_if-append false xs ys = refl
+
+-- the log of a run so far, where it is wanted, and what is written of one more event, which ran
+pub log-more : (wanted : Bool) (k : Shape) (program : List Form) (events : List Event) (event : Event) (s : State)
+    (sent written : List Row) (out next : List ℕ)
+    → out ≡ text_if wanted (log_of k program events)
+    → row k program (run k program events) event ≡ Some (record { state = s; sent = sent }) → written ≡ sent
+    → next ≡ out ++ text_if wanted (ran_text event written)
+    → next ≡ text_if wanted (log_of k program (events ++ event ∷ []))
+log-more wanted k program events event s sent written out next before ran same now =
+    let text : ran_text event written ≡ row_text event (row k program (run k program events) event) =
+    text-ran event (row k program (run k program events) event) s sent written ran same in
+    now ∙ ap (λ (x : List ℕ). x ++ text_if wanted (ran_text event written)) before
+    ∙ text_if-append wanted (log_of k program events) (ran_text event written)
+    ∙ ap (λ (x : List ℕ). text_if wanted (log_of k program events ++ x)) text
+    ∙ ap (text_if wanted) (sym (log_from-more k program (opening k) events event))

@@ -4,4 +4,5 @@ pub mod Greedy
 pub mod Jobs
 pub mod Log
 pub mod Report
+pub mod Schedule
 pub mod Serial

@@ -1,5 +1,5 @@
 -- The log of a list of events: a line for each one that was enabled, and after it a line for each message that it sent, in order.
-use Rattle.std.specs.Prelude.{ℕ, List, [], ◌∷◌, ◌++◌, Option, Some, None, codes}
+use Rattle.std.specs.Prelude.{ℕ, List, [], ◌∷◌, ◌++◌, Bool, Option, Some, None, codes, if◌then◌else◌}
 use Rattle.std.specs.List.{flat_map}
 use Rattle.std.specs.Fmt.{decimal}
 use Rattle.hex.specs.Hex.{encode_lower}
@@ -43,3 +43,7 @@ log_from k program s (event ∷ events) = row_text event (row k program s event)
 -- the log of events that begin in the opening state
 abbrev pub log_of : Shape → List Form → List Event → List ℕ
 log_of k program events = log_from k program (opening k) events
+
+-- a text where it is wanted, and else nothing
+abbrev pub text_if : Bool → List ℕ → List ℕ
+text_if wanted text = if wanted then text else []

@@ -1,5 +1,5 @@
 -- How a run of the greedy schedule may end.
-use Rattle.std.specs.Prelude.{◌≡◌, ℕ, ◌≤◌, ◌↔◌, List, Bool, length, IsTrue, IsSome}
+use Rattle.std.specs.Prelude.{◌≡◌, ◌≤◌, ◌↔◌, List, Bool, length, IsTrue, IsSome}
 use Rattle.bk_system.specs.declared.event.Event.{Event}
 use Rattle.bk_system.specs.Runs.{run, IsTight, IsInOrder, IsComplete}
 use Rattle.bk_run.specs.declared.serial_runs.SerialFault.{SerialFault}

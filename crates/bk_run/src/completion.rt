@@ -1,9 +1,11 @@
 ghost use Rattle.std.specs.Prelude.{◌≡◌, ℕ, IfOk, IsTrue, ◌↔◌};
 ghost use Rattle.bk_system.specs.Runs.{issued_by, completed_by, IsPrefix, IsInOrder};
-ghost use Rattle.bk_run.specs.Completion.{IsWhole, IsDone};
+ghost use Rattle.bk_system.specs.Systems.{state_of};
+ghost use Rattle.bk_run.specs.Completion.{IsWhole, IsDone, HasAsMany, IsFinished};
 
 use bk_base::{Done, Op};
-use bk_system::Event;
+use bk_isa::Instr;
+use bk_system::{Event, Hardware};
 use bk_trace::Trace;
 use std::alloc::{AllocError, Global};
 
@@ -72,7 +74,8 @@ fn is_in_order(alloc: Global, trace: &Trace, events: &[Event]) -> Result<bool, A
     let issues = issues_of(alloc, events)?;
     for cache in 0..config.caches {
         let issued = issued_by(alloc, cache, &issues)?;
-        if !is_prefix(&issued, trace.operations(cache)) {
+        let operations = trace.operations(alloc, cache)?;
+        if !is_prefix(&issued, &operations) {
             return Ok(false);
         }
     }
@@ -86,7 +89,8 @@ fn is_whole(alloc: Global, trace: &Trace, history: &[Done]) -> Result<bool, Allo
     let config = trace.config();
     for cache in 0..config.caches {
         let completed = completed_by(alloc, cache, history)?;
-        if !is_same(&completed, trace.operations(cache)) {
+        let operations = trace.operations(alloc, cache)?;
+        if !is_same(&completed, &operations) {
             return Ok(false);
         }
     }
@@ -105,4 +109,26 @@ pub(crate) fn is_done(
     ensures { IfOk result (λ b. IsTrue b ↔ IsDone trace.now.config trace.now.lines events.now history.now rested) }
 {
     Ok(rested && is_in_order(alloc, trace, events)? && is_whole(alloc, trace, history)?)
+}
+
+/// Whether each cache has completed as many operations as it has in the trace.
+fn has_as_many(hardware: &Hardware, trace: &Trace) -> bool
+    requires { trace.now.config ≡ hardware.now.config }
+    ensures { IsTrue result ↔ HasAsMany hardware.now.config trace.now.lines (state_of hardware.now).history }
+{
+    for cache in 0..hardware.cache_count() {
+        if hardware.completed(cache) != trace.count(cache) {
+            return false;
+        }
+    }
+    true
+}
+
+/// Whether a greedy run does all of its trace. As it is made it is in order, and what a cache has completed are the first of its
+/// operations: so they are counted and not compared.
+pub(crate) fn is_finished(hardware: &Hardware, program: &[Instr], trace: &Trace) -> bool
+    requires { trace.now.config ≡ hardware.now.config }
+    ensures { IsTrue result ↔ IsFinished hardware.now.config program.now trace.now.lines (state_of hardware.now) }
+{
+    hardware.rested(program) && has_as_many(hardware, trace)
 }

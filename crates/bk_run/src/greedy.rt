@@ -4,6 +4,7 @@ ghost use Rattle.std.specs.Fn.{FnReturnsAt};
 ghost use Rattle.bk_base.specs.Counting.{first_below};
 ghost use Rattle.bk_lce.specs.Policies.{IsPolicy};
 ghost use Rattle.bk_run.specs.Greedy.{ready_operation, engine_event, fill_event, if_enabled, least_other, next_operation, IsLeast, IsEnd};
+ghost use Rattle.bk_run.specs.Schedule.{AreThrough};
 ghost use Rattle.bk_system.specs.Systems.{state_of};
 ghost use Rattle.bk_system.specs.declared.event.Event.TheVariants.{Command};
 
@@ -20,7 +21,7 @@ fn next_operation<'a>(hardware: &Hardware, trace: &'a Trace, cache: u8) -> Optio
     requires cache { cache < hardware.now.config.caches }
     ensures { option_copied result ≡ next_operation (state_of hardware.now) trace.now.lines cache }
 {
-    trace.operations(cache).get(hardware.completed(cache))
+    trace.operation(cache, hardware.completed(cache))
 }
 
 /// The event, if it is enabled.
@@ -48,10 +49,6 @@ fn ready_operation(
     ensures own { IfSome result (λ at. at.0 ≡ cache) }
     ensures value { result ≡ ready_operation hardware.now.config program.now (state_of hardware.now) trace.now.lines cache }
 {
-    // Most caches are busy, so that is asked first.
-    if hardware.cache(cache).busy() {
-        return None;
-    }
     match next_operation(hardware, trace, cache) {
         None => None,
         Some(op) => {
@@ -69,18 +66,43 @@ fn ready_operation(
     }
 }
 
-fn first_ready(hardware: &Hardware, program: &[Instr], trace: &Trace) -> Option<(u8, Op)>
+/// How many of the first caches are known to have done their whole trace, from how many were: one more, if the next one has too.
+pub(crate) fn past_finished(hardware: &Hardware, trace: &Trace, finished: u8) -> u8
+    requires config { trace.now.config ≡ hardware.now.config }
+    requires finished { AreThrough (state_of hardware.now) trace.now.lines finished }
+    ensures { AreThrough (state_of hardware.now) trace.now.lines result }
+{
+    if finished < hardware.cache_count() && trace.count(finished) <= hardware.completed(finished) {
+        finished + 1
+    } else {
+        finished
+    }
+}
+
+/// The first cache that may issue its next operation, with it. The first `finished` caches have none and aren't asked.
+pub(crate) fn first_ready(
+    hardware: &Hardware,
+    program: &[Instr],
+    trace: &Trace,
+    finished: u8,
+) -> Option<(u8, Op)>
     requires few { length program.now ≤ 256 }
     requires config { trace.now.config ≡ hardware.now.config }
+    requires finished { AreThrough (state_of hardware.now) trace.now.lines finished }
     ensures cache { IfSome result (λ at. at.0 < hardware.now.config.caches) }
     ensures first { result ≡ first_below hardware.now.config.caches
         (ready_operation hardware.now.config program.now (state_of hardware.now) trace.now.lines) }
 {
-    for cache in 0..hardware.cache_count() {
+    let mut start = finished;
+    for _ in 0..hardware.cache_count() {
+        let Some(cache) = hardware.next_idle(start) else {
+            return None;
+        };
         match ready_operation(hardware, program, trace, cache) {
             None => {}
             Some(at) => return Some(at),
         }
+        start = cache + 1;
     }
     None
 }
@@ -200,7 +222,7 @@ pub(crate) fn least_of<F: Fn(&[WayView]) -> u8 + Copy + Send>(
         (IsLeast (FnReturnsAt F.Fn victim.now.pick) hardware.now.config program.now (state_of hardware.now) trace.now.lines) }
 {
     let config = trace.config();
-    match first_ready(hardware, program, trace) {
+    match first_ready(hardware, program, trace, 0) {
         None => least_other(hardware, program),
         Some((cache, op)) => {
             let set = group_of(config, address_of(&op));

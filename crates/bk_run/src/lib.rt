@@ -8,11 +8,14 @@ mod log_text;
 mod logs;
 mod report_text;
 mod reports;
+mod schedule;
 mod serial_runs;
 mod system;
 
 pub use counts::Counts;
 pub use logs::log;
 pub use reports::report;
-pub use serial_runs::{ReportedRun, RunEnd, SerialFault, budget, serial, serial_report};
+pub use serial_runs::{
+    LoggedRun, ReportedRun, RunEnd, SerialFault, budget, serial, serial_log, serial_report,
+};
 pub use system::System;

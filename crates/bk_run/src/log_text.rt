@@ -3,7 +3,7 @@
 ghost use Rattle.std.specs.Prelude.{◌≡◌, ◌++◌, OnOk, string_bytes};
 ghost use Rattle.std.specs.List.{flat_map};
 ghost use Rattle.bk_system.specs.declared.event.Event.TheVariants.{Issue};
-ghost use Rattle.bk_run.specs.Log.{event_text, message_text, ran_text};
+ghost use Rattle.bk_run.specs.Log.{event_text, message_text, ran_text, text_if};
 
 use bk_base::Op;
 use bk_msg::{Message, spell};
@@ -66,4 +66,20 @@ pub(crate) fn push_ran(
 {
     push_event(out, event)?;
     push_messages(alloc, out, sent)
+}
+
+/// The same where the lines are wanted, and else nothing.
+pub(crate) fn push_ran_if(
+    alloc: Global,
+    out: &mut String,
+    is_wanted: bool,
+    event: &Event,
+    sent: &[Message],
+) -> Result<(), AllocError>
+    ensures { OnOk result (string_bytes out.new ≡ string_bytes out.old ++ text_if is_wanted (ran_text event.now sent.now)) }
+{
+    if !is_wanted {
+        return Ok(());
+    }
+    push_ran(alloc, out, event, sent)
 }

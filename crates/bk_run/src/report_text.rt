@@ -151,6 +151,9 @@ fn push_caches(out: &mut String, hardware: &Hardware) -> Result<(), AllocError>
     Ok(())
 }
 
+/// Room for so many bytes is made for each operation that has completed: most lines of the history are shorter.
+const ROOM_FOR_EACH: usize = 24;
+
 /// The report of a system's hardware and of the counts of its run. Fails only where memory runs out.
 pub(crate) fn report_bytes(
     alloc: Global,
@@ -160,7 +163,10 @@ pub(crate) fn report_bytes(
 ) -> Result<Vec<u8>, AllocError>
     ensures { IfOk result (λ v. v.items ≡ report_text hardware.now.config (state_of hardware.now) counts.now complete) }
 {
-    let mut out = String::new(alloc);
+    let mut out = String::with_capacity(
+        alloc,
+        hardware.history().len().saturating_mul(ROOM_FOR_EACH),
+    )?;
     push_history(&mut out, hardware.history())?;
     push_events(&mut out, counts)?;
     push_messages(&mut out, counts)?;

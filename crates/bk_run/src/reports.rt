@@ -2,7 +2,7 @@ ghost use Rattle.std.specs.Prelude.{◌≡◌, ◌+◌, ◌*◌, ◌≤◌, ◌^
 ghost use Rattle.bk_run.specs.CountBounds.{IsAtMost};
 ghost use Rattle.bk_system.specs.Events.{row};
 ghost use Rattle.bk_system.specs.Runs.{after, run};
-ghost use Rattle.bk_run.specs.Report.{IsReport, no_counts, count_sent, count_row, counts_of};
+ghost use Rattle.bk_run.specs.Report.{IsReport, no_counts, count_event, count_sent, count_row, counts_of};
 ghost use Rattle.bk_system.specs.State.{opening};
 ghost use Rattle.bk_system.specs.Systems.{state_of};
 
@@ -27,6 +27,17 @@ fn count_messages(counts: &mut Counts, messages: &[Message])
     for message in messages {
         counts.add_message(message);
     }
+}
+
+/// Counts an event that was made, and the messages that it sent.
+pub(crate) fn count_made(counts: &mut Counts, event: &Event, sent: &[Message])
+    requires few { length sent.now ≤ MOST_SENT }
+    requires room { IsAtMost (2 ^ 59) (2 ^ 63) counts.old }
+    ensures value { counts.new ≡ count_sent (count_event counts.old event.now) sent.now }
+    ensures grows { (n : ℕ) → IsAtMost n (MOST_SENT * n) counts.old → IsAtMost (n + 1) (MOST_SENT * (n + 1)) counts.new }
+{
+    counts.add_event(event);
+    count_messages(counts, sent);
 }
 
 /// A run of some events: the hardware after them, and what was counted.
@@ -64,8 +75,7 @@ impl Counted {
     {
         match self.hardware.step(program, event) {
             Ok(true) => {
-                self.counts.add_event(event);
-                count_messages(&mut self.counts, self.hardware.sent());
+                count_made(&mut self.counts, event, self.hardware.sent());
                 Ok(())
             }
             Ok(false) => Ok(()),

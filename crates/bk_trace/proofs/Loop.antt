@@ -1,14 +1,17 @@
 -- Reading the lines of a trace one after the other, as a loop does.
-use Rattle.std.proofs.Common.{◌≡◌, Option, ℕ, ◌+◌, ◌<◌, ◌≤◌, arith, List, [], ◌∷◌, ◌++◌, length, Some, None, Result, Ok, Err, ◌∙◌, refl, sym, ap, append_assoc}
+use Rattle.std.proofs.Common.{◌≡◌, true, cond, ◌||◌, Option, ℕ, ◌+◌, ◌<◌, ◌≤◌, arith, List, [], ◌∷◌, ◌++◌, length, Some, None, Result, Ok, Err, ◌∙◌, refl, sym, ap, append_assoc}
 use Rattle.std.specs.Prelude.{IfSome, option_to_list}
-use Rattle.std.specs.List.{All, cons_option}
+use Rattle.std.specs.List.{All, cons_option, list_any}
+use Rattle.std.specs.Str.Lines.{lines}
 use Rattle.std.proofs.lemmas.List.Elements.{All-push}
 use Rattle.std.proofs.lemmas.List.{append-nil, length_push}
 use Rattle.bk_base.specs.declared.op.Op.{Op}
+use Rattle.bk_text.specs.Texts.{is_nonempty}
+use Rattle.bk_text.specs.LineWords.{Marked}
 use Rattle.bk_text.specs.Faults.{Bad, ◌>>=◌}
-use Rattle.bk_trace.specs.Traces.{IsLine}
+use Rattle.bk_trace.specs.Traces.{Parts, IsLine}
 use Rattle.bk_trace.specs.Faults.{At, bad}
-use Rattle.bk_trace.specs.Reading.{line_of, counted, line_at, lines_at, first_at, config_from}
+use Rattle.bk_trace.specs.Reading.{line_of, on_line, counted, line_at, lines_at, first_at, found, config_from, no_config, has_words, lines_read, trace_at}
 use Rattle.bk_base.specs.Places.{Shape}
 
 -- what was read before, and what is still read
@@ -77,3 +80,37 @@ pub config_stops : (line : ℕ) (text : List ℕ) (texts : List (List ℕ)) (fau
     → first_at (line_of text) (line_of text).words ≡ Err fault → config_from line (text ∷ texts) ≡ Err (bad line fault)
 unfolding config_from
 config_stops line text texts fault e = rw e refl
+
+-- ---- a configuration that is found is one of words
+
+words_first : (line : ℕ) (words : List Marked) (bad : Option ℕ) (end : ℕ) (texts : List (List ℕ))
+    (x : Shape × (ℕ × List (List ℕ)))
+    → (config_from (line + 1) texts ≡ Ok x → list_any has_words texts ≡ true)
+    → (on_line line (first_at (record { words = words; bad = bad; end = end }) words) >>= λ first.
+    found first (line + 1) texts (config_from (line + 1) texts)) ≡ Ok x
+    → (is_nonempty words || list_any has_words texts) ≡ true
+unfolding first_at
+words_first line [] None end texts x behind e = behind e
+words_first line [] (Some column) end texts x behind e = absurd cc
+words_first line (w ∷ words) bad end texts x behind e = refl
+
+pub words_found : (line : ℕ) (texts : List (List ℕ)) (x : Shape × (ℕ × List (List ℕ))) → config_from line texts ≡ Ok x
+    → list_any has_words texts ≡ true
+unfolding config_from
+words_found line [] x e = absurd cc
+words_found line (text ∷ texts) x e =
+    words_first line (line_of text).words (line_of text).bad (line_of text).end texts x (words_found (line + 1) texts x) e
+
+-- ---- the whole text
+
+abbrev lines_behind : Result (Shape × (ℕ × List (List ℕ))) Bad → Result Parts Bad
+lines_behind read =
+    read >>= λ config. lines_at 10000 config.0.caches 0 config.1.0 config.1.1 >>= λ ls. Ok (record { config = config.0; lines = ls })
+
+pub trace_read : (text : List ℕ) (x : Shape × (ℕ × List (List ℕ))) (ops : List (ℕ × Op)) → config_from 1 (lines text) ≡ Ok x
+    → lines_at 10000 x.0.caches 0 x.1.0 x.1.1 ≡ Ok ops
+    → trace_at text ≡ Ok (record { config = x.0; lines = ops })
+unfolding lines_read
+trace_read text x ops e given =
+    ap (λ t. cond t (lines_read 10000 (lines text)) (Err no_config)) (words_found 1 (lines text) x e)
+    ∙ ap lines_behind e ∙ ap (λ r. r >>= λ ls. Ok (record { config = x.0; lines = ls })) given

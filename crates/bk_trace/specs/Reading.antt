@@ -1,6 +1,6 @@
 -- Reading a trace from left to right, with the first fault that is met; at one place the one of the least kind.
 -- A line's readers answer a value and what is left of the line.
-use Rattle.std.specs.Prelude.{◌≡◌, ℕ, ◌+◌, Bool, true, false, not, List, [], ◌∷◌, Option, Some, None, Result, Ok, Err, nat_lt, if◌then◌else◌}
+use Rattle.std.specs.Prelude.{ℕ, ◌+◌, Bool, true, List, [], ◌∷◌, Option, Some, None, Result, Ok, Err, nat_lt, if◌then◌else◌}
 use Rattle.std.specs.List.{list_any, cons_option}
 use Rattle.std.specs.Str.Lines.{lines}
 use Rattle.bk_base.specs.Places.{Shape, is_small_count, is_set_count}

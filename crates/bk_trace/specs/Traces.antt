@@ -1,5 +1,5 @@
 -- A trace: a configuration, and operations of its caches.
-use Rattle.std.specs.Prelude.{ℕ, ◌<◌, ◌≤◌, ◌^◌, List, [], ◌∷◌, length, map, ◌==◌, if◌then◌else◌}
+use Rattle.std.specs.Prelude.{ℕ, ◌+◌, ◌<◌, ◌≤◌, ◌^◌, List, [], ◌∷◌, length, map, ◌==◌, if◌then◌else◌}
 use Rattle.std.specs.List.{All, range_with_len}
 use Rattle.bk_base.specs.Places.{Shape, InProfile, IsAddr}
 use Rattle.bk_base.specs.declared.op.Op.{Op}
@@ -15,9 +15,15 @@ abbrev pub operations_of : ℕ → List (ℕ × Op) → List Op
 operations_of cache [] = []
 operations_of cache (line ∷ lines) = if line.0 == cache then line.1 ∷ operations_of cache lines else operations_of cache lines
 
--- the operations of cache 0, of cache 1, and so on
-abbrev pub index_of : ℕ → List (ℕ × Op) → List (List Op)
-index_of caches lines = map (λ cache. operations_of cache lines) (range_with_len 0 caches)
+-- the numbers of one cache's lines, ascending, where the first of all lines has this number
+abbrev pub places_from : ℕ → ℕ → List (ℕ × Op) → List ℕ
+places_from number cache [] = []
+places_from number cache (line ∷ lines) =
+    if line.0 == cache then number ∷ places_from (number + 1) cache lines else places_from (number + 1) cache lines
+
+-- the numbers of the lines of cache 0, of cache 1, and so on, counted from 0
+abbrev pub index_of : ℕ → List (ℕ × Op) → List (List ℕ)
+index_of caches lines = map (λ cache. places_from 0 cache lines) (range_with_len 0 caches)
 
 -- the numbers of an operation: an address, and a value of 64 bits
 abbrev pub IsOp : Op → Type 0

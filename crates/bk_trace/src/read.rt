@@ -112,16 +112,14 @@ fn operations(
 }
 
 /// The trace of a text, or its first fault.
-#[tactic(auto, unfolding(crate::specs::Reading::lines_read))]
+#[tactic(auto, using(crate::proofs::Loop::words_found), unfolding(crate::specs::Reading::lines_read))]
 fn read(alloc: Global, text: &[u8]) -> Result<Trace, TraceFault>
     ensures { Gives (λ t. t) result (trace_at text.now) }
 {
-    if !any_words(text) {
-        return Err(no_config());
-    }
     let (config, line, rest) = match config_from(text) {
         Ok(found) => found,
-        Err(fault) => return Err(fault),
+        // What is wrong in a comment counts only where a line has words.
+        Err(fault) => return Err(if any_words(text) { fault } else { no_config() }),
     };
     let lines = operations(alloc, config.caches, line, rest)?;
     Ok(Trace::make(alloc, config, lines)?)

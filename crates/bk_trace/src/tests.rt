@@ -36,10 +36,14 @@ fn reads_values(rt: HostRuntime) -> Result<(), Fail> {
     assert_eq!(rt; lines[3], (1, Op::Load(addr(0xff_ffff_fff8)?)));
     assert_eq!(rt; lines[4], (0, Op::UcStore(addr(0)?, u64::MAX)));
     assert!(rt; trace.config().caches == 2);
-    let operations = trace.operations(1);
+    let operations = trace.operations(rt.alloc(), 1)?;
     assert_eq!(rt; operations.len(), 2);
     assert_eq!(rt; operations[0], Op::UcLoad(addr(0x448)?));
     assert_eq!(rt; operations[1], Op::Load(addr(0xff_ffff_fff8)?));
+    assert_eq!(rt; (trace.count(0), trace.count(1)), (3, 2));
+    assert!(rt; trace.operation(0, 2) == Some(&lines[4].1));
+    assert!(rt; trace.operation(1, 0) == Some(&lines[1].1));
+    assert!(rt; trace.operation(1, 2).is_none());
     Ok(())
 }
 
@@ -93,6 +97,8 @@ fn finds_the_first_fault(rt: HostRuntime) -> Result<(), Fail> {
         (b"Config 1 1 1\n".as_slice(), (1, 1, 41)),
         (b"0 L 0x0\n".as_slice(), (1, 1, 41)),
         (b"# \x01\n".as_slice(), (1, 1, 41)),
+        (b"\n# \x01\n\n".as_slice(), (1, 1, 41)),
+        (b"\n# \x01\nconfig 1 1 1\n".as_slice(), (2, 3, 40)),
         (b"".as_slice(), (1, 1, 41)),
     ] {
         assert_eq!(rt; fault_of(rt.alloc(), text)?, fault, "{text:?}");

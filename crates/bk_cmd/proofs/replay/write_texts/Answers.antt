@@ -1,38 +1,25 @@
-use Rattle.std.proofs.Common.{◌≡◌, ap, ◌∙◌, arith}
+use Rattle.std.proofs.Common.{arith}
 use Rattle.std.specs.Fn.{FnReturnsAt}
-use Rattle.bk_cmd.specs.Replays.{log_due}
 use Rattle.bk_cmd.proofs.Ends.{reported, reported-part}
 use Rattle.bk_cmd.proofs.replay.write_texts.Goals as goal
 
-pub returns-in-Ok-clause-ok : goal.returns-in-Ok-clause-ok
-returns-in-Ok-clause-ok g c = λ s.
-    let is_log : c.in-Ok.log.items
-    ≡ log_due c.args.inputs.now.output c.args.inputs.now.image c.args.inputs.now.trace c.args.run.end.events.items
-    = c.in-Ok.ensures ∙ ap (log_due c.args.inputs.now.output c.args.inputs.now.image c.args.inputs.now.trace) c.deref.ensures.value in
+pub returns-clause-ok : goal.returns-clause-ok
+returns-clause-ok g c = λ s.
     reported (FnReturnsAt g.F.Fn c.args.victim.now.pick) c.args.inputs.now.output c.args.inputs.now.image c.args.inputs.now.trace
-    c.deliver.result
-    _ _ c.args.run.end.events.items c.in-Ok.log.items c.args.run.report.items c.deliver.ensures.events c.requires.ended c.requires.coherent
-    c.requires.report is_log
-    (rw (← c.deref-in-Ok.ensures.value, ← c.deref-in-Ok-2.ensures.value) (c.deliver.ensures.ok s))
+    c.deliver.result _ _ c.args.run.end.events.items c.args.run.log.items c.args.run.report.items c.deliver.ensures.events c.requires.ended
+    c.requires.coherent c.requires.report c.requires.log
+    (rw (← c.deref.ensures.value, ← c.deref-2.ensures.value) (c.deliver.ensures.ok s))
 
-pub returns-in-Ok-clause-write_fault : goal.returns-in-Ok-clause-write_fault
-returns-in-Ok-clause-write_fault g c = λ s.
-    let is_log : c.in-Ok.log.items
-    ≡ log_due c.args.inputs.now.output c.args.inputs.now.image c.args.inputs.now.trace c.args.run.end.events.items
-    = c.in-Ok.ensures ∙ ap (log_due c.args.inputs.now.output c.args.inputs.now.image c.args.inputs.now.trace) c.deref.ensures.value in
+pub returns-clause-write_fault : goal.returns-clause-write_fault
+returns-clause-write_fault g c = λ s.
     reported-part (FnReturnsAt g.F.Fn c.args.victim.now.pick) c.args.inputs.now.output c.args.inputs.now.image c.args.inputs.now.trace
-    c.deliver.result
-    _ _ c.args.run.end.events.items c.in-Ok.log.items c.args.run.report.items c.deliver.ensures.events c.requires.ended c.requires.coherent
-    c.requires.report is_log
-    (rw (← c.deref-in-Ok.ensures.value, ← c.deref-in-Ok-2.ensures.value) (c.deliver.ensures.part (λ e. omega (arith, e, s))))
+    c.deliver.result _ _ c.args.run.end.events.items c.args.run.log.items c.args.run.report.items c.deliver.ensures.events c.requires.ended
+    c.requires.coherent c.requires.report c.requires.log
+    (rw (← c.deref.ensures.value, ← c.deref-2.ensures.value) (c.deliver.ensures.part (λ e. omega (arith, e, s))))
 
-pub returns-in-Ok-clause-memory_part : goal.returns-in-Ok-clause-memory_part
-returns-in-Ok-clause-memory_part g c = λ s some.
-    let is_log : c.in-Ok.log.items
-    ≡ log_due c.args.inputs.now.output c.args.inputs.now.image c.args.inputs.now.trace c.args.run.end.events.items
-    = c.in-Ok.ensures ∙ ap (log_due c.args.inputs.now.output c.args.inputs.now.image c.args.inputs.now.trace) c.deref.ensures.value in
+pub returns-clause-memory_part : goal.returns-clause-memory_part
+returns-clause-memory_part g c = λ s some.
     reported-part (FnReturnsAt g.F.Fn c.args.victim.now.pick) c.args.inputs.now.output c.args.inputs.now.image c.args.inputs.now.trace
-    c.deliver.result
-    _ _ c.args.run.end.events.items c.in-Ok.log.items c.args.run.report.items c.deliver.ensures.events c.requires.ended c.requires.coherent
-    c.requires.report is_log
-    (rw (← c.deref-in-Ok.ensures.value, ← c.deref-in-Ok-2.ensures.value) (c.deliver.ensures.part (λ e. omega (arith, e, s))))
+    c.deliver.result _ _ c.args.run.end.events.items c.args.run.log.items c.args.run.report.items c.deliver.ensures.events c.requires.ended
+    c.requires.coherent c.requires.report c.requires.log
+    (rw (← c.deref.ensures.value, ← c.deref-2.ensures.value) (c.deliver.ensures.part (λ e. omega (arith, e, s))))

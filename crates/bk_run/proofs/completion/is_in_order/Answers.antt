@@ -10,9 +10,11 @@ returns-then-not-is_prefix c =
     let issued : c.deref-in-loop-cache.result.now ≡ issued_by c.loop-cache.cache c.args.events.now =
     c.deref-in-loop-cache.ensures.value ∙ c.in_ok-issued.ensures ∙ ap (issued_by c.loop-cache.cache) c.deref.ensures.value
     ∙ c.in_ok-issues.ensures c.loop-cache.cache in
+    let listed : c.deref-in-loop-cache-2.result.now ≡ operations_of c.loop-cache.cache c.args.trace.now.lines =
+    c.deref-in-loop-cache-2.ensures.value ∙ c.in_ok-operations.ensures.value in
     let refused = refused-at c.args.trace.now.config c.args.trace.now.lines c.args.events.now c.loop-cache.cache
-    c.deref-in-loop-cache.result.now c.operations.result.now c.is_prefix.result
-    within issued c.operations.ensures.value c.is_prefix.ensures.1 c.if-not-is_prefix.true in
+    c.deref-in-loop-cache.result.now c.deref-in-loop-cache-2.result.now c.is_prefix.result
+    within issued listed c.is_prefix.ensures.1 c.if-not-is_prefix.true in
     ((λ (h : IsTrue false). absurd (cc h)), refused)
 
 pub loop-cache-preserved : goal.loop-cache-preserved
@@ -20,7 +22,10 @@ loop-cache-preserved c =
     let issued : c.deref-in-loop-cache.result.now ≡ issued_by c.loop-cache.cache c.args.events.now =
     c.deref-in-loop-cache.ensures.value ∙ c.in_ok-issued.ensures ∙ ap (issued_by c.loop-cache.cache) c.deref.ensures.value
     ∙ c.in_ok-issues.ensures c.loop-cache.cache in
+    let listed : c.deref-in-loop-cache-2.result.now ≡ operations_of c.loop-cache.cache c.args.trace.now.lines =
+    c.deref-in-loop-cache-2.ensures.value ∙ c.in_ok-operations.ensures.value in
     below_more (λ k. IsPrefix (issued_by k c.args.events.now) (operations_of k c.args.trace.now.lines)) c.loop-cache.cache
     c.loop-cache.invariant
-    (prefix-at c.args.trace.now.lines c.args.events.now c.loop-cache.cache c.deref-in-loop-cache.result.now c.operations.result.now issued
-    c.operations.ensures.value (c.is_prefix.ensures.0 c.if-not-is_prefix.false))
+    (prefix-at c.args.trace.now.lines c.args.events.now c.loop-cache.cache c.deref-in-loop-cache.result.now
+    c.deref-in-loop-cache-2.result.now issued
+    listed (c.is_prefix.ensures.0 c.if-not-is_prefix.false))

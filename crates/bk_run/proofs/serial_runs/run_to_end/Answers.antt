@@ -9,10 +9,9 @@ returns-in-None-clause-ok g c =
     let y = c.in-Ok.made.counted.hardware in
     let events = c.in-Ok.made.events.items in
     let job : Job = job_of (FnReturnsAt g.F.Fn c.args.victim.now.pick) c.args.program.now c.args.trace.now c.args.budget in
-    let made = made-run job y.config events c.deref.result.now c.history.result.now (state_of y) c.rested-rested.result
-    c.in-Ok-is_done.complete c.in-Ok.ensures.greedy c.in-Ok.ensures.within c.deref.ensures.value c.in-Ok.ensures.config
-    c.in-Ok.ensures.state c.history.ensures c.rested-rested.ensures c.in-Ok-is_done.ensures in
-    made-ended job y.config events (state_of y) c.in-Ok-is_done.complete made c.in-Ok.ensures.config c.in-Ok.ensures.state
+    let made = made-run job y.config events (state_of y) c.is_finished-complete.result c.in-Ok.ensures.greedy c.in-Ok.ensures.within
+    c.in-Ok.ensures.config c.in-Ok.ensures.state c.is_finished-complete.ensures in
+    made-ended job y.config events (state_of y) c.is_finished-complete.result made c.in-Ok.ensures.config c.in-Ok.ensures.state
     c.in-None.ensures
 
 pub returns-in-Some-clause-fault : goal.returns-in-Some-clause-fault
@@ -20,8 +19,7 @@ returns-in-Some-clause-fault g c =
     let y = c.in-Ok.made.counted.hardware in
     let events = c.in-Ok.made.events.items in
     let job : Job = job_of (FnReturnsAt g.F.Fn c.args.victim.now.pick) c.args.program.now c.args.trace.now c.args.budget in
-    let made = made-run job y.config events c.deref.result.now c.history.result.now (state_of y) c.rested-rested.result
-    c.in-Ok-is_done.complete c.in-Ok.ensures.greedy c.in-Ok.ensures.within c.deref.ensures.value c.in-Ok.ensures.config
-    c.in-Ok.ensures.state c.history.ensures c.rested-rested.ensures c.in-Ok-is_done.ensures in
-    made-spent job y.config events (state_of y) c.in-Ok-is_done.complete c.in-Some.field-0 made c.in-Ok.ensures.whole
+    let made = made-run job y.config events (state_of y) c.is_finished-complete.result c.in-Ok.ensures.greedy c.in-Ok.ensures.within
+    c.in-Ok.ensures.config c.in-Ok.ensures.state c.is_finished-complete.ensures in
+    made-spent job y.config events (state_of y) c.is_finished-complete.result c.in-Some.field-0 made c.in-Ok.ensures.whole
     c.in-Ok.ensures.config c.in-Ok.ensures.state c.in-Some.ensures

@@ -1,7 +1,6 @@
-use Rattle.std.proofs.Common.{◌≡◌, map}
-use Rattle.std.specs.List.{range_with_len}
-use Rattle.bk_trace.specs.Traces.{operations_of}
+use Rattle.std.proofs.Common.{◌≡◌, map, take}
+use Rattle.bk_trace.specs.Traces.{index_of}
 use Rattle.bk_trace.proofs.trace.index_of.Given as goal
 
-abbrev pub invariant-loop-cache : goal.invariant-loop-cache
-invariant-loop-cache l = map (λ ops. ops.items) l.index.items ≡ map (λ cache. operations_of cache l.lines) (range_with_len 0 l.cache)
+abbrev pub invariant-loop-number : goal.invariant-loop-number
+invariant-loop-number l = map (λ places. places.items) l.index.items ≡ index_of l.caches (take l.number l.lines)

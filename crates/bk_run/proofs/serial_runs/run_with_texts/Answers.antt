@@ -3,7 +3,7 @@ use Rattle.bk_isa.specs.declared.form.Form.{Form}
 use Rattle.bk_run.specs.Report.{IsReport}
 use Rattle.bk_system.specs.Systems.{state_of}
 use Rattle.bk_run.proofs.Ends.{report-from}
-use Rattle.bk_run.proofs.serial_runs.serial_report.Goals as goal
+use Rattle.bk_run.proofs.serial_runs.run_with_texts.Goals as goal
 
 pub returns-in-Ok-report_bytes-clause-report : goal.returns-in-Ok-report_bytes-clause-report
 returns-in-Ok-report_bytes-clause-report g c =
