@@ -24,7 +24,8 @@ new-parts : (n n' field w : ℕ) → n' + field_at n w * 2 ^ (37 * w) ≡ n + fi
 new-parts n n' field w e = let p = parts n w in omega (arith, p, e)
 
 -- the field that was written
-field-same : (n n' field w : ℕ) → n' + field_at n w * 2 ^ (37 * w) ≡ n + field * 2 ^ (37 * w) → field < 2 ^ 37 → field_at n' w ≡ field
+field-same : (n n' field w : ℕ) → n' + field_at n w * 2 ^ (37 * w) ≡ n + field * 2 ^ (37 * w) → field < 2 ^ 37
+    → field_at n' w ≡ field
 field-same n n' field w e l =
     let p = 2 ^ (37 * w) in
     let high = n / p / 2 ^ 37 in
@@ -170,7 +171,8 @@ no-more ways (suc more) entries h =
     ∙ (omega arith)
 
 -- a number is that of its entries
-pub number-again : (k : Shape) (n : ℕ) (entries : ℕ → Entry) → k.ways ≤ 8 → n < 2 ^ 320 → ((w : ℕ) → IsField k w (field_at n w))
+pub number-again : (k : Shape) (n : ℕ) (entries : ℕ → Entry) → k.ways ≤ 8 → n < 2 ^ 320
+    → ((w : ℕ) → IsField k w (field_at n w))
     → ((w : ℕ) → entries w ≡ entry_in (field_at n w)) → number_below k.ways entries ≡ n
 number-again k n entries few small fields same =
     let field = λ (w : ℕ). ap field_of (same w) ∙ field-again k w (field_at n w) (fields w) in

@@ -3,6 +3,7 @@ pub mod Codes
 pub mod EntryTests
 pub mod Fields
 pub mod Lists
+pub mod Renewed
 pub mod SummaryLaws
 pub mod Ways
 pub mod Words

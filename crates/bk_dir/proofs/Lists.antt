@@ -29,7 +29,8 @@ unfolding entries_of
 entries_of-off xs c g w l = grind (arith, nat_tests)
 
 -- the field that is read of a segment that the list has
-pub field-read : (xs : List (List ℕ)) (c g w place : ℕ) (words : List ℕ) (field : ℕ) → place < length xs → place ≡ place_of c g
+pub field-read : (xs : List (List ℕ)) (c g w place : ℕ) (words : List ℕ) (field : ℕ) → place < length xs
+    → place ≡ place_of c g
     → words ≡ get_or xs place words → field ≡ field_at (number_of words) w → field ≡ field_in xs (place_of c g) w
 field-read xs c g w place words field l e read f =
     let there : words ≡ get_or xs place [] = get_or_read_under xs place (length xs) words [] read l refl in
@@ -40,7 +41,8 @@ pub record IsOver (old new : List ℕ) (w : ℕ) (x : Entry) : Type 0 where
   pub number : number_of new + field_at (number_of old) w * 2 ^ (37 * w) ≡ number_of old + field_of x * 2 ^ (37 * w)
   pub small : field_of x < 2 ^ 37
 
-pub over-read : (xs : List (List ℕ)) (c g w place : ℕ) (words : List ℕ) (field : ℕ) (x : Entry) (new : List ℕ) → place < length xs
+pub over-read : (xs : List (List ℕ)) (c g w place : ℕ) (words : List ℕ) (field : ℕ) (x : Entry) (new : List ℕ)
+    → place < length xs
     → place ≡ place_of c g → words ≡ get_or xs place words → field ≡ field_of x → field < 2 ^ 37
     → number_of new + field_at (number_of words) w * 2 ^ (37 * w) ≡ number_of words + field * 2 ^ (37 * w)
     → IsOver (get_or xs (place_of c g) []) new w x
@@ -221,7 +223,8 @@ bits_of-on n i l = fun_ext (λ g. elim (cases_eq g i) [
 bit-above : (n g : ℕ) → n < 2 ^ 64 → 64 ≤ g → has_bit n g ≡ false
 bit-above n g small l = ap (λ x. x == 1) (bit_at_above n 64 g small l)
 
-pub bits_of-off : (n i : ℕ) → i < 64 → n < 2 ^ 64 → bits_of (bit_and n (bit_not w64 (1 * 2 ^ i % 2 ^ 64))) ≡ put (bits_of n) i false
+pub bits_of-off : (n i : ℕ) → i < 64 → n < 2 ^ 64
+    → bits_of (bit_and n (bit_not w64 (1 * 2 ^ i % 2 ^ 64))) ≡ put (bits_of n) i false
 unfolding put bits_of
 bits_of-off n i l small = fun_ext (λ g. elim (cases_eq g i) [
   | inl same ↦

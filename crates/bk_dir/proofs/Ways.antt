@@ -24,14 +24,16 @@ first_below-longer n (suc more) f h =
     ∙ or_else-none (first_below (n + more) f) ∙ first_below-longer n more f h
 
 -- the least way of eight is the least of as many as there are, where no other way passes
-pub least-of-eight : (n : ℕ) (test : ℕ → Bool) → n ≤ 8 → ((i : ℕ) → n ≤ i → test i ≡ false) → least_below 8 test ≡ least_below n test
+pub least-of-eight : (n : ℕ) (test : ℕ → Bool) → n ≤ 8 → ((i : ℕ) → n ≤ i → test i ≡ false)
+    → least_below 8 test ≡ least_below n test
 least-of-eight n test few h =
     let e : 8 ≡ n + (8 - n) = omega arith in
     ap (λ m. least_below m test) e
     ∙ first_below-longer n (8 - n) (λ i. if test i then Some i else None) (λ i l. rw (h i l) refl)
 
 -- a way that isn't there
-entry-off : (k : Shape) (xs : List (List ℕ)) (c g w : ℕ) → AreFields k xs → c < 8 → k.ways ≤ w → entries_of xs c g w ≡ empty_entry
+entry-off : (k : Shape) (xs : List (List ℕ)) (c g w : ℕ) → AreFields k xs → c < 8 → k.ways ≤ w
+    → entries_of xs c g w ≡ empty_entry
 entry-off k xs c g w fields lc l = entries_of-at xs c g w lc ∙ ap entry_in ((fields (place_of c g) w).there l)
 
 pub holds-off : (k : Shape) (xs : List (List ℕ)) (c g tag w : ℕ) → AreFields k xs → c < 8 → k.ways ≤ w
@@ -39,7 +41,8 @@ pub holds-off : (k : Shape) (xs : List (List ℕ)) (c g tag w : ℕ) → AreFiel
 holds-off k xs c g tag w fields lc l = ap (λ (x : Entry). holds x tag) (entry-off k xs c g w fields lc l)
 
 -- a way that holds a block is there
-pub way-there : (k : Shape) (xs : List (List ℕ)) (c g tag w : ℕ) → AreFields k xs → c < 8 → holds (entries_of xs c g w) tag ≡ true
+pub way-there : (k : Shape) (xs : List (List ℕ)) (c g tag w : ℕ) → AreFields k xs → c < 8
+    → holds (entries_of xs c g w) tag ≡ true
     → w < k.ways
 way-there k xs c g tag w fields lc h =
     elim (cases_lt w k.ways) [

@@ -105,7 +105,8 @@ pub record HasRoom (low high old field from : ℕ) : Type 0 where
 abbrev HasRoomAt : (low high field : ℕ) → ℕ → Type 0
 HasRoomAt low high field w = HasRoom low high (part low high (shift_of w)) field (shift_of w)
 
-room-at : (low high field : ℕ) → low < 2 ^ 64 → high < 2 ^ 64 → field < 2 ^ 37 → (w : ℕ) → w < 8 → HasRoomAt low high field w
+room-at : (low high field : ℕ) → low < 2 ^ 64 → high < 2 ^ 64 → field < 2 ^ 37 → (w : ℕ) → w < 8
+    → HasRoomAt low high field w
 room-at low high field ll lh lf =
     each-way (HasRoomAt low high field)
     (record { low-room = omega arith; low-fits = omega arith; high-room = omega arith; high-fits = omega arith; sum = omega arith })
@@ -217,7 +218,8 @@ written-plain xs field w old p lf l e =
 
 pub is-written : (xs : List ℕ) (field w place next from old above above-new below below-new : ℕ) → IsWords xs → field < 2 ^ 37
     → w < 8 → place ≡ first-place w → next ≡ next-place w → from ≡ shift_of w
-    → old ≡ part (get_or xs place 0) (get_or xs next 0) from → above ≡ old / 2 ^ (64 - from) → above-new ≡ field / 2 ^ (64 - from)
+    → old ≡ part (get_or xs place 0) (get_or xs next 0) from → above ≡ old / 2 ^ (64 - from)
+    → above-new ≡ field / 2 ^ (64 - from)
     → below ≡ old * 2 ^ from % 2 ^ 64 → below-new ≡ field * 2 ^ from % 2 ^ 64
     → IsWritten xs field w place next above above-new below below-new
 is-written xs field w place next from old above above-new below below-new p lf l ep en ef eo ea ean eb ebn =
@@ -271,7 +273,8 @@ words-small a b c d e la lb lc ld le (suc (suc (suc zero))) = ld
 words-small a b c d e la lb lc ld le (suc (suc (suc (suc zero)))) = le
 words-small a b c d e la lb lc ld le (suc (suc (suc (suc (suc i))))) = lit< tt
 
-pub five-zeros : (xs : List ℕ) → length xs ≡ 5 → ((i : ℕ) → i < 5 → get_or xs i 0 ≡ get_or (0 ∷ 0 ∷ 0 ∷ 0 ∷ 0 ∷ []) i 0)
+pub five-zeros : (xs : List ℕ) → length xs ≡ 5
+    → ((i : ℕ) → i < 5 → get_or xs i 0 ≡ get_or (0 ∷ 0 ∷ 0 ∷ 0 ∷ 0 ∷ []) i 0)
     → xs ≡ 0 ∷ 0 ∷ 0 ∷ 0 ∷ 0 ∷ []
 five-zeros (a ∷ b ∷ c ∷ d ∷ e ∷ []) five h =
     λ i. h 0 (lit< tt) i ∷ h 1 (lit< tt) i ∷ h 2 (lit< tt) i ∷ h 3 (lit< tt) i ∷ h 4 (lit< tt) i ∷ []

@@ -1,5 +1,5 @@
 -- What the engine reads from a directory for a request: own, owner, others and victim.
-use Rattle.std.specs.Prelude.{ℕ, zero, suc, ◌+◌, ◌/◌, ◌%◌, ◌^◌, Bool, true, false, not, ◌&&◌, ◌==◌, if◌then◌else◌, Option, Some, None, is_some, unwrap_or}
+use Rattle.std.specs.Prelude.{◌≡◌, ◌≢◌, ℕ, zero, suc, ◌+◌, ◌/◌, ◌%◌, ◌^◌, Bool, true, false, not, ◌&&◌, ◌==◌, if◌then◌else◌, Option, Some, None, is_some, unwrap_or}
 use Rattle.bk_base.specs.Places.{Shape}
 use Rattle.bk_base.specs.Counting.{first_below, least_below}
 use Rattle.bk_base.specs.States.{is_readable, is_owner_like}
@@ -82,3 +82,9 @@ summary k d query = record {
   others = bits_below k.caches (is_other k d query);
   victim = victim_of query.placed query.tag (d.entries query.cache query.set query.way);
 }
+
+-- AGAIN: what a summary says of the other caches stands while their entries of the set do
+
+-- two directories say the same of a set, for each cache but one
+abbrev pub AgreeElsewhere : Contents → Contents → ℕ → ℕ → Type 0
+AgreeElsewhere d later cache set = (c : ℕ) → c ≢ cache → d.entries c set ≡ later.entries c set

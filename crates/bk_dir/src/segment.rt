@@ -23,16 +23,10 @@ const TAG_UNIT: u64 = 8;
 
 /// The state with a code. No field has a code without a state.
 fn state_in(code: u64) -> Coh
+    requires { code < 8 }
     ensures { result ≡ state_in code }
 {
-    match code {
-        1 => Coh::S,
-        2 => Coh::E,
-        3 => Coh::F,
-        6 => Coh::M,
-        7 => Coh::O,
-        _ => Coh::I,
-    }
+    Coh::from_code(code as u8).unwrap_or(Coh::I)
 }
 
 /// The tag in a field.
@@ -44,7 +38,8 @@ pub(crate) fn tag_in(field: u64) -> u64
 
 /// The code in a field.
 pub(crate) fn code_in(field: u64) -> u64
-    ensures { result ≡ field % 8 }
+    ensures value { result ≡ field % 8 }
+    ensures small { result < 8 }
 {
     field % TAG_UNIT
 }

@@ -1,9 +1,10 @@
-ghost use Rattle.std.specs.Prelude.{◌≡◌, ◌≢◌, ◌<◌, ◌&&◌, ◌||◌, ◌+◌, ◌^◌, if◌then◌else◌, IfSome};
+ghost use Rattle.std.specs.Prelude.{◌≡◌, ◌≢◌, ◌<◌, ◌&&◌, ◌||◌, ◌+◌, ◌^◌, if◌then◌else◌, IfSome, unwrap_or};
 ghost use Rattle.bk_base.specs.Counting.{or_else};
 ghost use Rattle.bk_base.specs.States.{is_owner_like};
+ghost use Rattle.bk_dir.specs.Contents.{Contents};
 ghost use Rattle.bk_dir.specs.Directories.{contents_of};
 ghost use Rattle.bk_dir.specs.Segments.{entry_in, HasCode};
-ghost use Rattle.bk_dir.specs.Summaries.{bits_below, found, holds, is_other, is_shared, owner, owner_at, owner_state, owner_way, shares, state_at, summary, victim_of, with_cache};
+ghost use Rattle.bk_dir.specs.Summaries.{AgreeElsewhere, bits_below, found, holds, is_other, is_shared, owner, owner_at, owner_state, owner_way, shares, state_at, summary, victim_of, with_cache};
 
 use crate::directory::Directory;
 use crate::entry::{Entry, Query, Summary};
@@ -40,15 +41,16 @@ struct Copies {
     is_shared: bool,
 }
 
-/// The first of two answers.
-fn or_else(first: Option<u8>, later: Option<u8>) -> Option<u8>
+/// The first of two answers that is there.
+fn or_else<T: Copy>(first: Option<T>, later: Option<T>) -> Option<T>
     ensures { result ≡ or_else first later }
 {
     match first {
         None => later,
-        Some(way) => Some(way),
+        Some(answer) => Some(answer),
     }
 }
+
 /// What a cache has of a block, with one way more.
 fn with_way(copies: Copies, way: u8, field: u64, tag: u64) -> Copies
     requires { HasCode field }
@@ -72,6 +74,17 @@ fn with_way(copies: Copies, way: u8, field: u64, tag: u64) -> Copies
     }
 }
 
+/// What the cache that asks has of a block, and what has to leave for it.
+#[derive(Clone, Copy)]
+struct Own {
+    /// The state of the least way that holds the block, `I` where none does.
+    state: Coh,
+    /// That way, 0 where there is none.
+    way: u8,
+    /// The state of the entry that has to leave, `I` where none has to.
+    victim: Coh,
+}
+
 /// What the other caches have of a block.
 #[derive(Clone, Copy)]
 struct Others {
@@ -79,16 +92,6 @@ struct Others {
     owner: Option<(u8, u8)>,
     /// The caches with an entry `S` of it: a bit for each.
     sharers: u16,
-}
-
-/// The first of two answers.
-fn first_owner(first: Option<(u8, u8)>, later: Option<(u8, u8)>) -> Option<(u8, u8)>
-    ensures { result ≡ or_else first later }
-{
-    match first {
-        None => later,
-        Some(at) => Some(at),
-    }
 }
 
 /// A cache with a way, where there is one.
@@ -150,14 +153,54 @@ impl Directory {
         ensures owner_is_other { IfSome result.owner (λ at. at.0 ≢ query.cache) }
         ensures others { result.others < 2 ^ self.now.config.caches }
     {
-        let found = self.find(query.cache, query.set, query.tag);
+        let own = self.own(query);
         let others = self.others(query);
         Summary {
-            own: self.state_at(query.cache, query.set, found),
-            own_way: found.unwrap_or(0),
+            own: own.state,
+            own_way: own.way,
             owner: others.owner,
             owner_state: self.owner_state(query.set, others.owner),
             others: others.sharers,
+            victim: own.victim,
+        }
+    }
+
+    /// What the directory says of a block now, where `kept` is what it said before entries of the asking cache alone were
+    /// written: what the other caches have of the block is taken over and not looked up.
+    pub fn renewed(&self, query: Query, kept: &Summary) -> Summary
+        requires cache { query.cache < self.now.config.caches }
+        requires set { query.set < self.now.config.sets }
+        requires way { query.way < self.now.config.ways }
+        ensures { (before : Contents) → kept.now ≡ summary self.now.config before query
+            → AgreeElsewhere before (contents_of self.now) query.cache query.set
+            → result ≡ summary self.now.config (contents_of self.now) query }
+    {
+        let own = self.own(query);
+        Summary {
+            own: own.state,
+            own_way: own.way,
+            victim: own.victim,
+            ..*kept
+        }
+    }
+
+    /// What the cache that asks has of a block, and what has to leave for it.
+    fn own(&self, query: Query) -> Own
+        requires cache { query.cache < self.now.config.caches }
+        requires set { query.set < self.now.config.sets }
+        requires way { query.way < self.now.config.ways }
+        ensures state { let found = found self.now.config (contents_of self.now) query.cache query.set query.tag in
+            result.state ≡ state_at (contents_of self.now) query.cache query.set found }
+        ensures way { let found = found self.now.config (contents_of self.now) query.cache query.set query.tag in
+            result.way ≡ unwrap_or found 0 }
+        ensures within { result.way < self.now.config.ways }
+        ensures victim { let entry = (contents_of self.now).entries query.cache query.set query.way in
+            result.victim ≡ victim_of query.placed query.tag entry }
+    {
+        let found = self.find(query.cache, query.set, query.tag);
+        Own {
+            state: self.state_at(query.cache, query.set, found),
+            way: found.unwrap_or(0),
             victim: victim_of(
                 query.placed,
                 query.tag,
@@ -247,7 +290,7 @@ impl Directory {
         for cache in 0..self.caches() {
             let copies = self.copies_for(query, cache);
             others = Others {
-                owner: first_owner(others.owner, with_cache(cache, copies.owner)),
+                owner: or_else(others.owner, with_cache(cache, copies.owner)),
                 sharers: with_bit(others.sharers, cache, copies.is_shared),
             };
         }

@@ -53,6 +53,13 @@ fn a_summary_of_four_caches(rt: HostRuntime) -> Result<(), Fail> {
         victim: Coh::E,
     };
     assert_eq!(rt; directory.summary(query), summary);
+    directory.write_state(0, 1, 1, Coh::I);
+    let renewed = Summary {
+        own: Coh::I,
+        own_way: 0,
+        ..summary
+    };
+    assert_eq!(rt; directory.renewed(query, &summary), renewed);
     Ok(())
 }
 

@@ -23,6 +23,7 @@ invariant_of-result-clause-fields c =
 
 pub returns-clause-state : goal.returns-clause-state
 returns-clause-state c =
-    let entries = ap entries_of (c.in_ok-segments.ensures.items_if_clones_equal (λ y same. five-zeros y same.long (λ i l. same.at i 0 0 l)))
+    let entries = ap entries_of (c.in_ok-segments.ensures.items_if_clones_equal
+    (λ y same. five-zeros y same.long (λ i l. same.at i 0 0 l)))
     ∙ entries_of-same (c.config.inside.sets * 8) (0 ∷ 0 ∷ 0 ∷ 0 ∷ 0 ∷ []) refl in
     λ i. record { entries = entries i; pending = bits_of-none i }
