@@ -79,7 +79,8 @@ times-more i word w =
     let parts = times-append w (digits i word) (digits 1 (word / 2 ^ (3 * i))) in
     ap (times w) (digits-split i 1 word) ∙ parts ∙ ap (λ n. times w (digits i word) + n) (omega arith)
 
-first_time : (n i word w : ℕ) → i < n → times w (digits n word) ≡ 1 → word / 2 ^ (3 * i) % 8 ≡ w → times w (digits i word) ≡ 0
+first_time : (n i word w : ℕ) → i < n → times w (digits n word) ≡ 1 → word / 2 ^ (3 * i) % 8 ≡ w
+    → times w (digits i word) ≡ 0
 unfolding times
 first_time n i word w l h e =
     let parts = times-append w (digits i word) (word / 2 ^ (3 * i) % 8 ∷ digits (n - i - 1) (word / 2 ^ (3 * i) / 8)) in

@@ -27,7 +27,8 @@ none_more i w word h d =
 age-is : (i w : ℕ) (xs : List ℕ) → position_or_len (λ v. v == w) xs ≡ i → i < length xs → i ≡ age_in xs w
 age-is i w xs e l = grind (arith, nat_tests, e, l)
 
-pub found_age : (n i w word : ℕ) → i < n → times w (digits i word) ≡ 0 → word / 2 ^ (3 * i) % 8 ≡ w → i ≡ age_in (digits n word) w
+pub found_age : (n i w word : ℕ) → i < n → times w (digits i word) ≡ 0 → word / 2 ^ (3 * i) % 8 ≡ w
+    → i ≡ age_in (digits n word) w
 found_age n i w word l h e =
     let around : digits n word ≡ digits i word ++ (w ∷ digits (n - i - 1) (word / 2 ^ (3 * i) / 8)) =
     digits_around n i word l ∙ ap (λ v. digits i word ++ (v ∷ digits (n - i - 1) (word / 2 ^ (3 * i) / 8))) e in
@@ -137,7 +138,8 @@ moved_fits n i w word l k m h =
 pub unit_is : (i : ℕ) → i < 8 → 1 * 2 ^ (3 * i) % 4294967296 ≡ 2 ^ (3 * i)
 unit_is i l = one_shl (3 * i) 32 (omega arith)
 
-pub moved_listed : (n i w word : ℕ) → i < n → w < n → n ≤ 8 → IsListed n word → word / 2 ^ (3 * i) % 8 ≡ w → IsListed n (moved i w word)
+pub moved_listed : (n i w word : ℕ) → i < n → w < n → n ≤ 8 → IsListed n word → word / 2 ^ (3 * i) % 8 ≡ w
+    → IsListed n (moved i w word)
 moved_listed n i w word l k m h e = record {
   once = λ v p. rw (moved_list n i w word l (omega arith) (h.once w k) e)
       (times-to_front w v (digits n word) (h.once w k) ∙ h.once v p);

@@ -76,7 +76,8 @@ listed_ordered n l = record {
 }
 
 -- the recency of such sets
-pub recency_ordered : (ways : ℕ) (xs : List ℕ) → ways ≤ 8 → AreOrdered ways xs → (set : ℕ) → recency_of ways xs set ≡ ways_in_order ways
+pub recency_ordered : (ways : ℕ) (xs : List ℕ) → ways ≤ 8 → AreOrdered ways xs → (set : ℕ)
+    → recency_of ways xs set ≡ ways_in_order ways
 unfolding recency_of
 recency_ordered ways xs l h set = ap (digits ways) (h set) ∙ digits-ordered ways l
 

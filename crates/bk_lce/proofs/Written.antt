@@ -94,7 +94,8 @@ listed_set k xs s new within n h i l =
     ]
 
 -- the word that was read at a set: its list, that it lists each way, and that it is made of them
-word_read : (ways : ℕ) (xs : List ℕ) (set read : ℕ) → set < length xs → read ≡ slice_index_or xs set read → read ≡ word_at ways xs set
+word_read : (ways : ℕ) (xs : List ℕ) (set read : ℕ) → set < length xs → read ≡ slice_index_or xs set read
+    → read ≡ word_at ways xs set
 word_read ways xs set read within e = e ∙ get_or_default xs set read (packed (ways_in_order ways)) within
 
 pub list_read : (ways : ℕ) (xs : List ℕ) (set read : ℕ) → set < length xs → read ≡ slice_index_or xs set read
@@ -102,12 +103,14 @@ pub list_read : (ways : ℕ) (xs : List ℕ) (set read : ℕ) → set < length x
 unfolding recency_of
 list_read ways xs set read within e = ap (digits ways) (word_read ways xs set read within e)
 
-pub listed_read : (k : Shape) (xs : List ℕ) (set read : ℕ) → set < length xs → read ≡ slice_index_or xs set read → AreListed k xs
+pub listed_read : (k : Shape) (xs : List ℕ) (set read : ℕ) → set < length xs → read ≡ slice_index_or xs set read
+    → AreListed k xs
     → IsListed k.ways read
 listed_read k xs set read within e h =
     subst (λ (word : ℕ). IsListed k.ways word) (sym (word_read k.ways xs set read within e)) (h set within)
 
-pub packed_read : (k : Shape) (xs : List ℕ) (set read : ℕ) → set < length xs → read ≡ slice_index_or xs set read → AreListed k xs
+pub packed_read : (k : Shape) (xs : List ℕ) (set read : ℕ) → set < length xs → read ≡ slice_index_or xs set read
+    → AreListed k xs
     → read ≡ packed (recency_of k.ways xs set)
 packed_read k xs set read within e h =
     sym (packed-digits k.ways read (listed_read k xs set read within e h).below) ∙ ap packed (list_read k.ways xs set read within e)
