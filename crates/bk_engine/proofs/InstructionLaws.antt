@@ -129,7 +129,7 @@ message-entries k d kind m =
     (λ e. cond_both (nat_lt 1 kind && nat_lt kind 6) (with_pending d g false) d (λ (contents : Contents). contents.entries ≡ d.entries)
     (λ i. refl) (λ i. refl))
 
-head-entries : (k : Shape) (d : Contents) (o : Option Head) → (with_head_mark k d o).entries ≡ d.entries
+pub head-entries : (k : Shape) (d : Contents) (o : Option Head) → (with_head_mark k d o).entries ≡ d.entries
 head-entries k d None = refl
 head-entries k d (Some head) = message-entries k d (head_number head.message) head.message
 
@@ -241,7 +241,7 @@ unsent k d held b c other owner =
     ]
 
 -- nor is the cache that asks, which is none of them
-asker-unsent : (k : Shape) (d : Contents) (held : Held) (b : Bool)
+pub asker-unsent : (k : Shape) (d : Contents) (held : Held) (b : Bool)
     → (nat_lt held.source k.caches && is_invalidated b (summary_for k d held) held.source) ≡ false
 asker-unsent k d held b =
     let s = summary_for k d held in
@@ -276,7 +276,7 @@ wiped-gone tag entry =
     and_from (is_readable entry.state) (entry.tag == tag) h.is_valid (eq-eqb entry.tag tag h.is_tag) in cc)
 
 -- nor does any way of a cache that is sent an invalidation
-wiped-entries : (k : Shape) (d : Contents) (held : Held) (b : Bool) (summary : Summary) (c v : ℕ)
+pub wiped-entries : (k : Shape) (d : Contents) (held : Held) (b : Bool) (summary : Summary) (c v : ℕ)
     → is_invalidated b summary c ≡ true → v < k.ways
     → (with_invalid_block k d held b summary).entries c (group_of k held.addr) v
     ≡ wiped_entry (tag_at k held.addr) (d.entries c (group_of k held.addr) v)

@@ -1,9 +1,10 @@
 -- What an engine keeps of the directory is of the configuration, and stands after an instruction.
 use Rattle.std.proofs.Common.{◌≡◌, ◌∙◌, ◌⊎◌, ℕ, ◌+◌, Bool, false, ◌<◌, ◌^◌, Option, Some, None, refl, subst, sym, ap, inl, inr, arith}
-use Rattle.std.specs.Prelude.{IfSome, is_none, if◌then◌else◌}
+use Rattle.std.specs.Prelude.{IfSome, is_none, is_some, if◌then◌else◌}
+use Rattle.std.proofs.lemmas.Bool.{both_ways, cond_both}
 use Rattle.bk_base.specs.Places.{Shape}
 use Rattle.bk_isa.specs.declared.form.Form.{Form}
-use Rattle.bk_isa.specs.declared.form.Form.TheVariants.{Bi, Beq, Bne, Blt, Bge, Bk, Wde, Wds, Fin, Wfq, Popq, Inv, Stwb, Mova, Movs, Movw}
+use Rattle.bk_isa.specs.declared.form.Form.TheVariants.{Bi, Beq, Bne, Blt, Bge, Bk, Fin, Wfq, Popq, Mova, Movs, Movw}
 use Rattle.bk_msg.specs.declared.row.Row.{Row}
 use Rattle.bk_msg.specs.declared.row.Row.TheVariants as rows
 use Rattle.bk_msg.specs.Within.{IsWay}
@@ -21,11 +22,11 @@ use Rattle.bk_engine.specs.declared.parts.Held.{Held}
 use Rattle.bk_engine.specs.declared.stop.Halt.TheVariants as halts
 use Rattle.bk_engine.specs.Engine.{EngineState}
 use Rattle.bk_engine.specs.Reads.{query_of, summary_for, is_branch_taken, target}
-use Rattle.bk_engine.specs.Changes.{after_request_read, after_pop, after_wait, core_but_place, next_place, directory_after, keeps}
-use Rattle.bk_engine.specs.Step.{is_plain, is_known_branch}
-use Rattle.bk_engine.specs.Stops.{halts_unless, pop_stop, form_stop}
+use Rattle.bk_engine.specs.Changes.{after_request_read, after_pop, after_wait, core_but_place, next_place, with_head_mark}
+use Rattle.bk_engine.specs.Step.{is_plain, branch_runs}
+use Rattle.bk_engine.specs.Stops.{halts_unless, branch_stop, pop_stop, form_stop}
 use Rattle.bk_engine.specs.Summed.{Tells, IsSummed}
-use Rattle.bk_engine.proofs.InstructionLaws.{only_four_write}
+use Rattle.bk_engine.proofs.InstructionLaws.{head-entries}
 use Rattle.bk_engine.proofs.Outward.{owner-within}
 
 -- A SUMMARY IS OF THE CONFIGURATION
@@ -67,7 +68,8 @@ kept_others k d held kept e =
 
 -- WHAT IS KEPT STANDS where the request and the entries are the same. A summary doesn't look at pending bits
 
-summary-same : (k : Shape) (d later : Contents) (held : Held) → later.entries ≡ d.entries → summary_for k d held ≡ summary_for k later held
+summary-same : (k : Shape) (d later : Contents) (held : Held) → later.entries ≡ d.entries
+    → summary_for k d held ≡ summary_for k later held
 summary-same k d later held same =
     ap (λ (x : ℕ → ℕ → ℕ → Entry). summary_for k (record { entries = x; pending = d.pending }) held) (sym same)
 
@@ -76,12 +78,12 @@ tells-same : (k : Shape) (d later : Contents) (held : Held) (summed : Option Sum
 tells-same k d later held None same t = tt
 tells-same k d later held (Some kept) same t = t ∙ summary-same k d later held same
 
-stands : (k : Shape) (d later : Contents) (request next : Option Held) (summed : Option Summary)
-    → next ≡ request → later.entries ≡ d.entries → IsSummed k d request summed → IsSummed k later next summed
-stands k d later request next summed e same b = record {
-  none = λ i. b.none (sym e ∙ i);
-  tells = λ held i. tells-same k d later held summed same (b.tells held (sym e ∙ i));
-}
+-- the mark of a head that is popped leaves them
+pub marked_stands : (k : Shape) (d later : Contents) (head : Option Head) (request : Option Held) (summed : Option Summary)
+    → later ≡ with_head_mark k d head → IsSummed k d request summed → IsSummed k later request summed
+marked_stands k d later head request summed e b =
+    let same : later.entries ≡ d.entries = ap (λ (x : Contents). x.entries) e ∙ head-entries k d head in
+    record { none = b.none; tells = λ held i. tells-same k d later held summed same (b.tells held i) }
 
 -- nothing is kept for no request, and then nothing is told of the next one
 nothing : (k : Shape) (later : Contents) (next : Option Held) (summed : Option Summary) → summed ≡ None → IsSummed k later next summed
@@ -107,7 +109,8 @@ row-held core choice (rows.Wb _ _ _ _) e = inl refl
 row-held core choice (rows.Block _ _ _ _) e = inl refl
 row-held core choice m e = inl refl
 
-popped-held : (core : Core) (o : Option Head) → pop_stop core o ≡ None → ((after_pop core o).held ≡ core.held) ⊎ (core.held ≡ None)
+popped-held : (core : Core) (o : Option Head) → pop_stop core o ≡ None
+    → ((after_pop core o).held ≡ core.held) ⊎ (core.held ≡ None)
 popped-held core None e = inl refl
 popped-held core (Some head) e = row-held core head.choice head.message e
 
@@ -125,56 +128,65 @@ read-held core (Some held) f = refl
 
 -- AFTER AN INSTRUCTION that runs
 
-after : (k : Shape) (engine : EngineState) (sent : ℕ) (f : Form) (choice : Choice) (o : Option Row) (summed : Option Summary)
-    → IsSummed k engine.directory engine.core.held summed → form_stop k engine f choice o ≡ None
-    → IsSummed k (directory_after k engine f) (core_but_place engine.core sent f choice o).held (if keeps f then summed else None)
-after k engine sent (Wde state) choice o summed b e = nothing k _ _ None refl
-after k engine sent (Wds who state) choice o summed b e = nothing k _ _ None refl
-after k engine sent Fin choice o summed b e = nothing k _ _ None refl
-after k engine sent (Inv a) choice o summed b e = nothing k _ _ None refl
-after k engine sent (Stwb who state) choice o summed b e = nothing k _ _ None refl
-after k engine sent (Popq wp) choice o summed b e = elim (popped-held engine.core engine.core.head e) [
-  | inl same ↦ stands k engine.directory _ engine.core.held _ summed same (only_four_write k engine (Popq wp) refl) b
-  | inr none ↦ nothing k _ _ summed (b.none none)
+-- what is kept where a request is held
+abbrev kept_for : Option Held → Option Summary → Option Summary
+kept_for request summed = if is_some request then summed else None
+
+held-stands : (k : Shape) (d : Contents) (request : Option Held) (summed : Option Summary) → IsSummed k d request summed
+    → IsSummed k d request (kept_for request summed)
+held-stands k d None summed b = nothing k d None None refl
+held-stands k d (Some held) summed b = b
+
+stands : (k : Shape) (d : Contents) (request next : Option Held) (summed : Option Summary) → IsSummed k d request summed
+    → next ≡ request → IsSummed k d next (kept_for next summed)
+stands k d request next summed b e =
+    subst (λ (o : Option Held). IsSummed k d o (kept_for o summed)) (sym e) (held-stands k d request summed b)
+
+none-kept : (k : Shape) (d : Contents) (next : Option Held) (summed : Option Summary) → summed ≡ None
+    → IsSummed k d next (kept_for next summed)
+none-kept k d next summed e = nothing k d next (kept_for next summed)
+    (cond_both (is_some next) summed None (λ (o : Option Summary). o ≡ None) (λ i. e) (λ i. refl))
+
+after : (k : Shape) (d : Contents) (engine : EngineState) (sent : ℕ) (f : Form) (choice : Choice) (o : Option Row)
+    (summed : Option Summary)
+    → IsSummed k d engine.core.held summed → form_stop k engine f choice o ≡ None
+    → (let next = (core_but_place engine.core sent f choice o).held in IsSummed k d next (kept_for next summed))
+after k d engine sent Fin choice o summed b e = nothing k d None None refl
+after k d engine sent (Popq wp) choice o summed b e = elim (popped-held engine.core engine.core.head e) [
+  | inl same ↦ stands k d engine.core.held _ summed b same
+  | inr none ↦ none-kept k d _ summed (b.none none)
 ]
-after k engine sent (Wfq classes) choice o summed b e =
-    stands k engine.directory _ engine.core.held _ summed (waited-held engine.core choice o)
-    (only_four_write k engine (Wfq classes) refl) b
-after k engine sent (Mova a) choice o summed b e =
-    stands k engine.directory _ engine.core.held _ summed (read-held engine.core engine.core.held (Mova a))
-    (only_four_write k engine (Mova a) refl) b
-after k engine sent (Movs a) choice o summed b e =
-    stands k engine.directory _ engine.core.held _ summed (read-held engine.core engine.core.held (Movs a))
-    (only_four_write k engine (Movs a) refl) b
-after k engine sent (Movw a) choice o summed b e =
-    stands k engine.directory _ engine.core.held _ summed (read-held engine.core engine.core.held (Movw a))
-    (only_four_write k engine (Movw a) refl) b
-after k engine sent f choice o summed b e =
-    stands k engine.directory _ engine.core.held _ summed refl (only_four_write k engine f refl) b
+after k d engine sent (Wfq classes) choice o summed b e = stands k d engine.core.held _ summed b (waited-held engine.core choice o)
+after k d engine sent (Mova a) choice o summed b e =
+    stands k d engine.core.held _ summed b (read-held engine.core engine.core.held (Mova a))
+after k d engine sent (Movs a) choice o summed b e =
+    stands k d engine.core.held _ summed b (read-held engine.core engine.core.held (Movs a))
+after k d engine sent (Movw a) choice o summed b e =
+    stands k d engine.core.held _ summed b (read-held engine.core engine.core.held (Movw a))
+after k d engine sent f choice o summed b e = stands k d engine.core.held _ summed b refl
 
-pub summed_after : (k : Shape) (engine : EngineState) (sent : ℕ) (f : Form) (choice : Choice) (o : Option Row) (summed : Option Summary)
-    (core : Core) (later : Contents) (kept : Option Summary) (place : ℕ)
-    → IsSummed k engine.directory engine.core.held summed → form_stop k engine f choice o ≡ None
-    → core ≡ core_but_place engine.core sent f choice o → later ≡ directory_after k engine f
-    → kept ≡ (if keeps f then summed else None)
-    → IsSummed k later (record core { place = place }).held kept
-summed_after k engine sent f choice o summed core later kept place b runs e i j =
-    let h = after k engine sent f choice o summed b runs in
-    subst (λ (x : Core). IsSummed k later x.held kept) (sym e)
-    (subst (λ (x : Contents). IsSummed k x (core_but_place engine.core sent f choice o).held kept) (sym i)
-    (subst (λ (x : Option Summary). IsSummed k (directory_after k engine f) (core_but_place engine.core sent f choice o).held x) (sym j) h))
+pub summed_after : (k : Shape) (d : Contents) (engine : EngineState) (sent : ℕ) (f : Form) (choice : Choice) (o : Option Row)
+    (summed : Option Summary) (core : Core) (kept : Option Summary) (place : ℕ)
+    → IsSummed k d engine.core.held summed → form_stop k engine f choice o ≡ None
+    → core ≡ core_but_place engine.core sent f choice o → kept ≡ (if is_some core.held then summed else None)
+    → IsSummed k d (record core { place = place }).held kept
+summed_after k d engine sent f choice o summed core kept place b runs e i =
+    let h = after k d engine sent f choice o summed b runs in
+    subst (λ (x : Option Summary). IsSummed k d core.held x) (sym i)
+    (subst (λ (x : Core). IsSummed k d x.held (kept_for x.held summed)) (sym e) h)
 
--- no instruction is a branch but the plain ones and `bk`: the next place comes
-untaken : (k : Shape) (engine : EngineState) (f : Form) → is_plain f ≡ false → is_known_branch f ≡ false
-    → is_branch_taken k engine f ≡ false
-untaken k engine (Bi _) e i = absurd (cc)
-untaken k engine (Beq _ _ _) e i = absurd (cc)
-untaken k engine (Bne _ _ _) e i = absurd (cc)
-untaken k engine (Blt _ _ _) e i = absurd (cc)
-untaken k engine (Bge _ _ _) e i = absurd (cc)
-untaken k engine (Bk _ _ _) e i = absurd (cc)
-untaken k engine f e i = refl
+-- no instruction is a branch but the plain ones and `bk`: where any other one runs the next place comes
+untaken : (k : Shape) (engine : EngineState) (f : Form) (choice : Choice) (o : Option Row) → is_plain f ≡ false
+    → branch_runs engine.core f ≡ false → form_stop k engine f choice o ≡ None → is_branch_taken k engine f ≡ false
+untaken k engine (Bi _) choice o e i runs = absurd (cc)
+untaken k engine (Beq _ _ _) choice o e i runs = absurd (cc)
+untaken k engine (Bne _ _ _) choice o e i runs = absurd (cc)
+untaken k engine (Blt _ _ _) choice o e i runs = absurd (cc)
+untaken k engine (Bge _ _ _) choice o e i runs = absurd (cc)
+untaken k engine (Bk field _ _) choice o e i runs = absurd (both_ways (is_none (branch_stop engine.core field)) i (ap is_none runs))
+untaken k engine f choice o e i runs = refl
 
-pub next_is : (k : Shape) (engine : EngineState) (f : Form) → is_plain f ≡ false → is_known_branch f ≡ false
-    → next_place k engine f ≡ engine.core.place + 1
-next_is k engine f e i = ap (λ (taken : Bool). if taken then target f else engine.core.place + 1) (untaken k engine f e i)
+pub next_is : (k : Shape) (engine : EngineState) (f : Form) (choice : Choice) (o : Option Row) → is_plain f ≡ false
+    → branch_runs engine.core f ≡ false → form_stop k engine f choice o ≡ None → next_place k engine f ≡ engine.core.place + 1
+next_is k engine f choice o e i runs =
+    ap (λ (taken : Bool). if taken then target f else engine.core.place + 1) (untaken k engine f choice o e i runs)

@@ -181,14 +181,14 @@ directory_after k engine f = directory_for_held k engine.directory engine.core.h
 
 -- WHAT IS KEPT of the directory once it was summed up
 
--- it stands after an instruction, but where an entry is written or the request ends
-abbrev pub keeps : Form → Bool
-keeps (Wde _) = false
-keeps (Wds _ _) = false
-keeps Fin = false
-keeps (Inv _) = false
-keeps (Stwb _ _) = false
-keeps f = true
+-- whether the owner's entries are wiped
+abbrev pub wipes_owner : Bool → Summary → Option (ℕ × ℕ) → Bool
+wipes_owner with_owner summary None = false
+wipes_owner with_owner summary (Some at) = is_invalidated with_owner summary at.0
+
+-- after invalidations no other cache has an entry S of the block; where the owner's are wiped, nothing is kept
+abbrev pub unshared : Bool → Summary → Option Summary
+unshared with_owner summary = if wipes_owner with_owner summary summary.owner then None else Some (record summary { others = 0 })
 
 -- HOW THE INVALIDATED ENTRIES ARE WIPED, one way and one cache after the other
 

@@ -1,5 +1,5 @@
 -- One instruction of the engine: what it leaves and does outside, and what a call of `step` or `step_into` says of it.
-use Rattle.std.specs.Prelude.{ℕ, ◌+◌, List, [], Bool, true, false, if◌then◌else◌, Option, Some, None, is_none, slice_get, ◌≡◌, ◌<◌, ◌⊎◌, All, IfSome}
+use Rattle.std.specs.Prelude.{ℕ, ◌+◌, List, [], Bool, true, false, ◌||◌, if◌then◌else◌, Option, Some, None, is_none, slice_get, ◌≡◌, ◌<◌, ◌⊎◌, All, IfSome}
 use Rattle.arrayvec.specs.ArrayVec.{ArrayVec}
 use Rattle.bk_base.specs.Places.{Shape}
 use Rattle.bk_isa.specs.declared.form.Form.{Form}
@@ -12,7 +12,7 @@ use Rattle.bk_engine.specs.declared.parts.Choice.{Choice}
 use Rattle.bk_engine.specs.declared.parts.Core.{Core}
 use Rattle.bk_engine.specs.declared.parts.Head.{Head}
 use Rattle.bk_engine.specs.Engine.{EngineState}
-use Rattle.bk_engine.specs.Stops.{stop_of}
+use Rattle.bk_engine.specs.Stops.{branch_stop, stop_of}
 use Rattle.bk_engine.specs.Changes.{after_flag, core_after, directory_after}
 use Rattle.bk_engine.specs.Reads.{compares, target}
 use Rattle.bk_engine.specs.Sends.{sends}
@@ -90,10 +90,25 @@ next_plain core f = if compares core f then target f else core.place + 1
 abbrev pub after_plain : Core → Form → Core
 after_plain core f = record (after_flag core f) { place = next_plain core f }
 
--- `bk` changes the place alone, where it runs
-abbrev pub is_known_branch : Form → Bool
-is_known_branch (Bk _ _ _) = true
-is_known_branch f = false
+-- INTERNAL INSTRUCTIONS, the plain ones and a `bk` that has no reason not to run: they take part in no channel and write no entry
+
+abbrev pub branch_runs : Core → Form → Bool
+branch_runs core (Bk field _ _) = is_none (branch_stop core field)
+branch_runs core f = false
+
+abbrev pub is_internal : Core → Form → Bool
+is_internal core f = is_plain f || branch_runs core f
+
+-- whether the instruction at the engine's place is one
+abbrev pub internal_at : Core → Option Form → Bool
+internal_at core None = false
+internal_at core (Some f) = is_internal core f
+
+-- it runs whatever is chosen and offered, sends nothing and pops nothing
+abbrev pub RunsInternally : Shape → List Form → EngineState → EngineState → Type 0
+RunsInternally k program old new = (choice : Choice) (message : Option Row)
+    → (stop_of k old program choice message ≡ None)
+    × (runs_to k old program choice message ≡ record { engine = new; sent = []; popped = None })
 
 -- WHAT A STEP SAYS
 

@@ -22,7 +22,7 @@ query_of k held = record {
 abbrev pub summary_for : Shape → Contents → Held → Summary
 summary_for k d held = summary k d (query_of k held)
 
--- WHAT IS KEPT, until an entry is written or the request ends
+-- WHAT IS KEPT: renewed or dropped where an entry is written, and dropped where the request ends
 
 -- where it is there, it is what the directory says for this request
 abbrev pub Tells : Shape → Contents → Held → Option Summary → Type 0

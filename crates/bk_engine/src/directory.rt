@@ -5,13 +5,14 @@ ghost use Rattle.bk_dir.specs.Contents.{with_entry};
 ghost use Rattle.bk_dir.specs.Directories.{contents_of};
 ghost use Rattle.bk_engine.specs.Heads.{head_number, IsSound};
 ghost use Rattle.bk_engine.specs.Engine.{engine_of};
-ghost use Rattle.bk_engine.specs.Summed.{Tells, IsSummed};
+ghost use Rattle.bk_engine.specs.Summed.{summary_for, Tells, IsSummed};
 ghost use Rattle.bk_engine.specs.Changes.{wiped_entry, with_invalid_block, with_state_at, with_named_state, directory_for, directory_for_held, with_message_mark, with_head_mark, directory_after, with_wiped_ways};
 
 use crate::heads::{HEAD_INV_ACK, HEAD_NULL_WB, HEAD_REQUEST, head_number};
 use crate::parts::{Core, Head, Held};
-use crate::reads::summary_for;
+use crate::reads::{query_of, summary_for};
 use crate::sends::is_invalidated;
+use crate::summed::unshared;
 use bk_base::{Coh, Config, group_of, tag_at};
 use bk_dir::{Directory, Entry, Summary};
 use bk_isa::Form;
@@ -112,6 +113,55 @@ fn write_named(
     }
 }
 
+/// Wipes the entries of the block in the caches that are sent an invalidation. What is kept of the directory is renewed without a
+/// look at it, or dropped.
+fn wipe_others(
+    config: Config,
+    directory: &mut Directory,
+    held: &Held,
+    summed: &mut Option<Summary>,
+    with_owner: bool,
+)
+    requires config { directory.old.config ≡ config }
+    requires few { config.caches ≤ 8 }
+    requires way { IsWay config held.now.source held.now.way }
+    requires summed { Tells config (contents_of directory.old) held.now summed.old }
+    ensures state { let d = contents_of directory.old in
+        contents_of directory.new ≡ with_invalid_block config d held.now with_owner (summary_for config d held.now) }
+    ensures summed { Tells config (contents_of directory.new) held.now summed.new }
+    ensures config { directory.new.config ≡ config }
+{
+    let summary = summary_for(config, directory, held, summed);
+    invalidate(config, directory, held, with_owner, &summary);
+    *summed = unshared(with_owner, summary);
+}
+
+/// Writes the state of an entry that is asked to be written back. Where it is one of the requester's own, what is kept of the other
+/// caches stands, and the rest is read anew.
+fn write_flushed(
+    config: Config,
+    directory: &mut Directory,
+    held: &Held,
+    summed: &mut Option<Summary>,
+    who: u8,
+    state: Coh,
+)
+    requires config { directory.old.config ≡ config }
+    requires way { IsWay config held.now.source held.now.way }
+    requires summed { Tells config (contents_of directory.old) held.now summed.old }
+    ensures state { contents_of directory.new ≡ with_named_state config (contents_of directory.old) held.now who state }
+    ensures summed { Tells config (contents_of directory.new) held.now summed.new }
+    ensures config { directory.new.config ≡ config }
+{
+    write_named(config, directory, held, summed, who, state);
+    *summed = match summed {
+        Some(kept) if who != WHOSE_OWNER => {
+            Some(directory.renewed(query_of(config, held), kept))
+        }
+        _ => None,
+    };
+}
+
 fn write_own(config: Config, directory: &mut Directory, held: &Held, state: Coh)
     requires config { directory.old.config ≡ config }
     requires way { IsWay config held.now.source held.now.way }
@@ -129,24 +179,28 @@ fn change_for(
     config: Config,
     directory: &mut Directory,
     held: &Held,
-    summed: &Option<Summary>,
+    summed: &mut Option<Summary>,
     form: Form,
 )
     requires config { directory.old.config ≡ config }
     requires few { config.caches ≤ 8 }
     requires way { IsWay config held.now.source held.now.way }
-    requires summed { Tells config (contents_of directory.old) held.now summed.now }
+    requires summed { Tells config (contents_of directory.old) held.now summed.old }
     ensures state { contents_of directory.new ≡ directory_for config (contents_of directory.old) held.now form }
+    ensures summed { Tells config (contents_of directory.new) held.now summed.new }
     ensures config { directory.new.config ≡ config }
 {
     match form {
-        Form::Wde { a } => write_own(config, directory, held, a),
-        Form::Wds { a, b } => write_named(config, directory, held, summed, a, b),
-        Form::Inv { a } => {
-            let summary = summary_for(config, directory, held, summed);
-            invalidate(config, directory, held, a == WITH_OWNER, &summary);
+        Form::Wde { a } => {
+            write_own(config, directory, held, a);
+            *summed = None;
         }
-        Form::Stwb { a, b } => write_named(config, directory, held, summed, a, b),
+        Form::Wds { a, b } => {
+            write_named(config, directory, held, summed, a, b);
+            *summed = None;
+        }
+        Form::Inv { a } => wipe_others(config, directory, held, summed, a == WITH_OWNER),
+        Form::Stwb { a, b } => write_flushed(config, directory, held, summed, a, b),
         _ => (),
     }
 }
@@ -155,13 +209,14 @@ fn change_held(
     config: Config,
     core: &Core,
     directory: &mut Directory,
-    summed: &Option<Summary>,
+    summed: &mut Option<Summary>,
     form: Form,
 )
     requires config { directory.old.config ≡ config }
     requires sound { IsSound config core.now }
-    requires summed { IsSummed config (contents_of directory.old) core.now.held summed.now }
+    requires summed { IsSummed config (contents_of directory.old) core.now.held summed.old }
     ensures state { contents_of directory.new ≡ directory_for_held config (contents_of directory.old) core.now.held form }
+    ensures summed { IsSummed config (contents_of directory.new) core.now.held summed.new }
     ensures config { directory.new.config ≡ config }
 {
     match &core.held {
@@ -196,18 +251,20 @@ fn mark_head(config: Config, directory: &mut Directory, head: &Option<Head>)
     }
 }
 
-/// What an instruction that runs changes in the directory. `core` is the engine before it.
+/// What an instruction that runs changes in the directory, and what stands of what is kept of it. `core` is the engine before it.
+#[tactic(auto, using(crate::proofs::Kept::marked_stands))]
 pub(crate) fn change_directory(
     config: Config,
     core: &Core,
     directory: &mut Directory,
-    summed: &Option<Summary>,
+    summed: &mut Option<Summary>,
     form: Form,
 )
     requires config { directory.old.config ≡ config }
     requires sound { IsSound config core.now }
-    requires summed { IsSummed config (contents_of directory.old) core.now.held summed.now }
+    requires summed { IsSummed config (contents_of directory.old) core.now.held summed.old }
     ensures state { contents_of directory.new ≡ directory_after config (engine_of core.now directory.old) form }
+    ensures summed { IsSummed config (contents_of directory.new) core.now.held summed.new }
     ensures config { directory.new.config ≡ config }
 {
     match form {

@@ -4,7 +4,7 @@ ghost use Rattle.bk_engine.specs.Heads.{IsSound, IsSound-prop};
 ghost use Rattle.bk_engine.specs.Summed.{IsSummed, IsSummed-prop};
 
 use crate::parts::{Choice, Core};
-use crate::step::{is_known_branch, is_plain, run, run_branch, run_plain};
+use crate::step::{branch_runs, is_plain, run, run_branch, run_plain};
 use crate::stop::{Halt, Stop, form_stop, stop_of};
 use crate::summed::sum_up;
 use arrayvec::ArrayVec;
@@ -54,13 +54,13 @@ pub struct Engine {
 }
 
 impl Engine {
-    ghost use Rattle.std.specs.Prelude.{◌≤◌, IfOk, Some, [], length};
+    ghost use Rattle.std.specs.Prelude.{◌≤◌, IfOk, Some, [], length, true, false, slice_get};
     ghost use Rattle.std.specs.Option.{option_copied};
     ghost use Rattle.bk_msg.specs.declared.row.Row.{Row};
     ghost use Rattle.bk_msg.specs.Within.{IsWithin};
     ghost use Rattle.bk_dir.specs.Directories.{contents_of};
     ghost use Rattle.bk_engine.specs.Engine.{new_engine, state_of};
-    ghost use Rattle.bk_engine.specs.Step.{IsStep, with_sent, SendsWhereRan, SendsWithin, PopsWithin, runs};
+    ghost use Rattle.bk_engine.specs.Step.{IsStep, with_sent, SendsWhereRan, SendsWithin, PopsWithin, runs, internal_at, RunsInternally};
 
     /// An engine for a configuration, at its start: it stands at place 0, holds nothing, and its directory is empty.
     ///
@@ -122,14 +122,13 @@ impl Engine {
         ensures sent { SendsWhereRan sent.new result }
         ensures config { self.new.config ≡ self.old.config }
     {
+        if self.step_internal(program) {
+            return Stepped::Ran { popped: None };
+        }
         let Some(instr) = program.get(self.core.place as usize) else {
             return Stepped::Halted(Halt::NoInstruction);
         };
         let form = instr.form();
-        if is_plain(form) {
-            run_plain(&mut self.core, form);
-            return Stepped::Ran { popped: None };
-        }
         sum_up(
             self.config,
             &self.core,
@@ -148,16 +147,6 @@ impl Engine {
         ) {
             Some(Stop::Waits(classes)) => Stepped::Waits(classes),
             Some(Stop::Halts(reason)) => Stepped::Halted(reason),
-            None if is_known_branch(form) => {
-                run_branch(
-                    self.config,
-                    &mut self.core,
-                    &self.directory,
-                    &self.summed,
-                    form,
-                );
-                Stepped::Ran { popped: None }
-            }
             None => {
                 let popped = run(
                     self.config,
@@ -172,6 +161,45 @@ impl Engine {
                 Stepped::Ran { popped }
             }
         }
+    }
+
+    /// Runs the instruction at the engine's place, if it is internal: on registers and flags alone, or a branch, that has no reason
+    /// not to run. Answers whether it did. Such an instruction runs whatever is chosen, sends nothing and takes no head off its
+    /// channel. If it is none, nothing has changed, and `step` tells what happens.
+    #[inline(always)]
+    pub fn step_internal(&mut self, program: &[Instr]) -> bool
+        requires { length program.now ≤ 256 }
+        ensures internal { result ≡ internal_at (state_of self.old).core (slice_get program.now (state_of self.old).core.place) }
+        ensures ran { result ≡ true → RunsInternally self.old.config program.now (state_of self.old) (state_of self.new) }
+        ensures still { result ≡ false → self.new ≡ self.old }
+        ensures config { self.new.config ≡ self.old.config }
+    {
+        let Some(instr) = program.get(self.core.place as usize) else {
+            return false;
+        };
+        let form = instr.form();
+        if is_plain(form) {
+            run_plain(&mut self.core, form);
+            return true;
+        }
+        if !branch_runs(&self.core, form) {
+            return false;
+        }
+        sum_up(
+            self.config,
+            &self.core,
+            &self.directory,
+            &mut self.summed,
+            form,
+        );
+        run_branch(
+            self.config,
+            &mut self.core,
+            &self.directory,
+            &self.summed,
+            form,
+        );
+        true
     }
 
     /// Whether a step with these arguments would run the instruction at the engine's place.

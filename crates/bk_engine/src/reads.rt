@@ -16,7 +16,8 @@ use bk_isa::operand::{
     FIELD_ACKS, FIELD_F0, FIELD_GP, FIELD_HEAD, FIELD_KIND, FIELD_OTHERS, FIELD_OWN, FIELD_OWNER,
 };
 
-fn query_of(config: Config, held: &Held) -> Query
+/// What a request asks the directory about.
+pub(crate) fn query_of(config: Config, held: &Held) -> Query
     ensures value { result ≡ query_of config held.now }
     ensures cache { result.cache ≡ held.now.source }
     ensures set { result.set < config.sets }

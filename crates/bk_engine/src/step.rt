@@ -9,7 +9,7 @@ ghost use Rattle.bk_engine.specs.Changes.{next_place};
 ghost use Rattle.bk_engine.specs.Engine.{engine_of};
 ghost use Rattle.bk_engine.specs.Heads.{IsSound};
 ghost use Rattle.bk_engine.specs.Sends.{HasStates};
-ghost use Rattle.bk_engine.specs.Step.{IsOutward, choice_of, pops, ran, is_plain, next_plain, after_plain, is_known_branch};
+ghost use Rattle.bk_engine.specs.Step.{IsOutward, choice_of, pops, ran, is_plain, next_plain, after_plain, branch_runs};
 ghost use Rattle.bk_engine.specs.Stops.{form_stop};
 ghost use Rattle.bk_engine.specs.Summed.{IsSummed};
 
@@ -20,6 +20,7 @@ use crate::parts::{Choice, Core, Head};
 use crate::reads::{compares, field_value, target};
 use crate::registers::flags_set;
 use crate::sends::{Sent, sends};
+use crate::stop::branch_stop;
 use crate::summed::drop_summary;
 use bk_base::Config;
 use bk_dir::{Directory, Summary};
@@ -100,11 +101,14 @@ pub(crate) fn run_plain(core: &mut Core, form: Form)
     core.place = next;
 }
 
-/// Whether an instruction is a branch on what is known of the request, `bk`.
-pub(crate) fn is_known_branch(form: Form) -> bool
-    ensures { result ≡ is_known_branch form }
+/// Whether an instruction is a branch on what is known of the request, `bk`, that has no reason not to run.
+pub(crate) fn branch_runs(core: &Core, form: Form) -> bool
+    ensures { result ≡ branch_runs core.now form }
 {
-    matches!(form, Form::Bk { .. })
+    match form {
+        Form::Bk { a, .. } => branch_stop(core, a).is_none(),
+        _ => false,
+    }
 }
 
 /// Runs a `bk` that has no reason not to run: it asks whether field `a` has one of the values `b`.
@@ -118,7 +122,7 @@ pub(crate) fn run_branch(
     requires config { directory.now.config ≡ config }
     requires sound { IsSound config core.old }
     requires summed { IsSummed config (contents_of directory.now) core.old.held summed.now }
-    requires branch { is_known_branch form ≡ true }
+    requires branch { branch_runs core.old form ≡ true }
     requires place { core.old.place < 256 }
     ensures { core.new ≡ record core.old { place = next_place config (engine_of core.old directory.now) form } }
 {
@@ -155,7 +159,7 @@ pub(crate) fn run(
     requires source { choice.source < config.caches }
     requires within { (m : Row) → option_copied message ≡ Some m → IsWithin config m }
     requires plain { is_plain form ≡ false }
-    requires branch { is_known_branch form ≡ false }
+    requires branch { branch_runs core.old form ≡ false }
     requires runs { form_stop config (engine_of core.old directory.old) form choice (option_copied message) ≡ None }
     requires empty { sent.old.items ≡ [] }
     ensures ran { ran config (engine_of core.old directory.old) form choice (option_copied message.entry)
@@ -170,8 +174,8 @@ pub(crate) fn run(
     let next = core.place + 1;
     sends(config, core, directory, summed, form, sent);
     change_directory(config, core, directory, summed, form);
-    drop_summary(summed, form);
     change_core(core, sent.len(), form, choice, message);
+    drop_summary(core, summed);
     core.place = next;
     popped
 }

@@ -97,7 +97,8 @@ fn pop_stop(core: &Core) -> Option<Stop>
     }
 }
 
-fn branch_stop(core: &Core, field: u8) -> Option<Stop>
+/// Why a `bk` of a field doesn't run, or none where it does.
+pub(crate) fn branch_stop(core: &Core, field: u8) -> Option<Stop>
     ensures { result ≡ branch_stop core.now field }
 {
     match field {

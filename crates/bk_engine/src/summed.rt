@@ -1,12 +1,13 @@
-ghost use Rattle.std.specs.Prelude.{◌≡◌, None, if◌then◌else◌};
+ghost use Rattle.std.specs.Prelude.{◌≡◌, ◌<◌, None, is_some, IfSome, if◌then◌else◌};
 ghost use Rattle.bk_dir.specs.Directories.{contents_of};
 ghost use Rattle.bk_engine.specs.Heads.{IsSound};
 ghost use Rattle.bk_engine.specs.Summed.{IsSummed};
 ghost use Rattle.bk_engine.specs.Reads.{looks};
-ghost use Rattle.bk_engine.specs.Changes.{keeps};
+ghost use Rattle.bk_engine.specs.Changes.{wipes_owner, unshared};
 
 use crate::parts::{Core, ROW_READ};
 use crate::reads::summary_for;
+use crate::sends::is_invalidated;
 use bk_base::Config;
 use bk_dir::{Directory, Summary};
 use bk_isa::Form;
@@ -56,25 +57,38 @@ pub(crate) fn sum_up(
     }
 }
 
-/// Whether what is kept of the directory stands after an instruction: it does but where an entry is written or the request ends.
-fn keeps(form: Form) -> bool
-    ensures { result ≡ keeps form }
+/// Whether the owner is among the caches that are sent an invalidation.
+fn wipes_owner(with_owner: bool, summary: &Summary) -> bool
+    requires { IfSome summary.now.owner (λ at. at.0 < 8) }
+    ensures { result ≡ wipes_owner with_owner summary.now summary.now.owner }
 {
-    match form {
-        Form::Wde { .. } => false,
-        Form::Wds { .. } => false,
-        Form::Fin => false,
-        Form::Inv { .. } => false,
-        Form::Stwb { .. } => false,
-        _ => true,
+    match summary.owner {
+        None => false,
+        Some((cache, _)) => is_invalidated(with_owner, summary, cache),
     }
 }
 
-/// Drops what is kept of the directory, where it doesn't stand after the instruction.
-pub(crate) fn drop_summary(summed: &mut Option<Summary>, form: Form)
-    ensures { summed.new ≡ (if keeps form then summed.old else None) }
+/// What is kept of the directory once a block is invalidated: no other cache has an entry `S` of it then. Where the owner's entries
+/// are gone too, who answers for the block next isn't known.
+pub(crate) fn unshared(with_owner: bool, summary: Summary) -> Option<Summary>
+    requires { IfSome summary.owner (λ at. at.0 < 8) }
+    ensures { result ≡ unshared with_owner summary }
 {
-    if !keeps(form) {
+    if wipes_owner(with_owner, &summary) {
+        None
+    } else {
+        Some(Summary {
+            others: 0,
+            ..summary
+        })
+    }
+}
+
+/// Drops what is kept of the directory, where no request is held.
+pub(crate) fn drop_summary(core: &Core, summed: &mut Option<Summary>)
+    ensures { summed.new ≡ (if is_some core.now.held then summed.old else None) }
+{
+    if core.held.is_none() {
         *summed = None;
     }
 }

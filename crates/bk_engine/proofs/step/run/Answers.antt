@@ -21,7 +21,8 @@ returns-clause-pops c =
 
 pub returns-clause-summed : goal.returns-clause-summed
 returns-clause-summed c =
-    summed_after c.args.config (record { core = c.args.core.now; directory = contents_of c.args.directory.now }) c.len.result c.args.form
-    c.args.choice (option_copied c.args.message) c.args.summed.now c.change_core.new.core
-    (contents_of c.change_directory.new.directory) c.drop_summary.new.summed (c.args.core.now.place + 1)
-    c.requires.summed c.requires.runs c.change_core.ensures c.change_directory.ensures.state c.drop_summary.ensures
+    summed_after c.args.config (contents_of c.change_directory.new.directory)
+    (record { core = c.args.core.now; directory = contents_of c.args.directory.now }) c.len.result c.args.form
+    c.args.choice (option_copied c.args.message) c.change_directory.new.summed c.change_core.new.core
+    c.drop_summary.new.summed (c.args.core.now.place + 1)
+    c.change_directory.ensures.summed c.requires.runs c.change_core.ensures c.drop_summary.ensures
