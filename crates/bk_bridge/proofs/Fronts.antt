@@ -236,7 +236,7 @@ engine-front k program s choice h =
 
 pub event-front : (k : Shape) (program : List Form) (s : State) (event : Event) → HoldsFront k s
     → HoldsFront k (after k program s event)
-event-front k program s (events.Issue c op way) h = row-stays k s s c (issue_taken k s c op way) h h
+event-front k program s (events.Issue c way op) h = row-stays k s s c (issue_taken k s c op way) h h
 event-front k program s (events.Command c) h =
     row-stays k s (without_command s c) c (command_taken k s c) h
     (elsewhere k s (without_command s c) s.engine.core.head (λ i. refl) refl (λ i. refl) h)

@@ -106,7 +106,7 @@ by_busy k s x c op way (Some b) f = neither _ _ (ltb c k.caches && ltb way k.way
 
 pub issue_step : (k : Shape) (program : List Form) (s : State) (x : Option (ℕ × Transaction)) (c : ℕ) (op : Operation) (way : ℕ)
     → WellFormed k s
-    → IsStep k program s x (events.Issue c op way) (machine.Issue c (op_of k op).0 (op_of k op).1 way)
+    → IsStep k program s x (events.Issue c way op) (machine.Issue c (op_of k op).0 (op_of k op).1 way)
 issue_step k program s x c op way f = record { enabled = both.enabled; left = both.left }
   where
     both : IsSame k x s s c (issue_taken k s c op way)

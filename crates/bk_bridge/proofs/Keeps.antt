@@ -103,7 +103,7 @@ memory-keeps k s (m ∷ ms) h f g = record {
 
 pub event-keeps : (k : Shape) (program : List Form) (s : State) (event : Event) → WellFormed k s → IsLawful event
     → WellFormed k (after k program s event)
-event-keeps k program s (events.Issue c op way) f l =
+event-keeps k program s (events.Issue c way op) f l =
     row-keeps k s s c _ f f
     (guard FormedTaken (ltb c k.caches && ltb way k.ways) _ (issue-formed k (s.caches c) c op way (cache-formed k s c f) l))
 event-keeps k program s (events.Command c) f l =

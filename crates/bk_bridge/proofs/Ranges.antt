@@ -296,7 +296,7 @@ module _ (k : Shape) where
 
 pub event-range : (k : Shape) (program : List Form) (s : State) (event : Event) → InProfile k → InRange k s
     → InRange k (after k program s event)
-event-range k program s (events.Issue c op way) p r = row-range k s s c (issue_taken k s c op way) r r (issue-within k s c op way)
+event-range k program s (events.Issue c way op) p r = row-range k s s c (issue_taken k s c op way) r r (issue-within k s c op way)
 event-range k program s (events.Command c) p r =
     row-range k s (without_command s c) c (command_taken k s c) r (command-left k s c r) (command-within k s c r)
 event-range k program s (events.Fill to from) p r =

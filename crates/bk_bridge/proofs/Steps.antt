@@ -24,8 +24,8 @@ some-is a b e = cc
 
 pub event_step : (k : Shape) (program : List Form) (s : State) (x : Option (ℕ × Transaction)) (e : Event) (event : machine.Event)
     → WellFormed k s → IsLawful e → event_of k e ≡ Some event → IsStep k program s x e event
-event_step k program s x (events.Issue c op way) event f l e =
-    subst (IsStep k program s x (events.Issue c op way)) (some-is _ _ e) (issue_step k program s x c op way f)
+event_step k program s x (events.Issue c way op) event f l e =
+    subst (IsStep k program s x (events.Issue c way op)) (some-is _ _ e) (issue_step k program s x c op way f)
 event_step k program s x (events.Command c) event f l e =
     subst (IsStep k program s x (events.Command c)) (some-is _ _ e) (command_step k program s x c f)
 event_step k program s x (events.Fill to from) event f l e =

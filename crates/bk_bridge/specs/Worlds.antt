@@ -63,7 +63,7 @@ world_of k later x = record {
 -- The machine's event of an event of a cache or the memory. What an instruction of the engine is for the machine depends on the
 -- program, so it has none here.
 abbrev pub event_of : Shape → SystemEvent → Option Event
-event_of k (events.Issue c op way) = Some (Issue c (op_of k op).0 (op_of k op).1 way)
+event_of k (events.Issue c way op) = Some (Issue c (op_of k op).0 (op_of k op).1 way)
 event_of k (events.Command c) = Some (Command c)
 event_of k (events.Fill to from) = Some (Fill to from)
 event_of k events.Memory = Some Memory

@@ -232,8 +232,8 @@ outside-ties k program s told event machine_event profile lawful tied i may left
 -- THE STATEMENTS
 
 pub events-tie : EventsTie
-events-tie k program n told (events.Issue c op v) profile g lawful o tied =
-    outside-ties k program n told (events.Issue c op v) _ profile lawful tied refl tt (λ d h. left-stepped (told_world k n told) _ d h)
+events-tie k program n told (events.Issue c v op) profile g lawful o tied =
+    outside-ties k program n told (events.Issue c v op) _ profile lawful tied refl tt (λ d h. left-stepped (told_world k n told) _ d h)
     (taken-engine n n c (issue_taken k n c op v) refl)
 events-tie k program n told (events.Command c) profile g lawful o tied =
     outside-ties k program n told (events.Command c) _ profile lawful tied refl tt (λ d h. left-stepped (told_world k n told) _ d h)

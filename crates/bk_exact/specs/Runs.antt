@@ -27,7 +27,7 @@ told_by k s told (Some f) = told_after k s.engine.core (told_world k s told) f t
 abbrev pub told_next : Shape → List Form → State → Told → Event → Told
 told_next k program s told (events.Engine choice) =
     if can_run k program s choice then told_by k s told (slice_get program s.engine.core.place) else told
-told_next k program s told (events.Issue c op way) = told
+told_next k program s told (events.Issue c way op) = told
 told_next k program s told (events.Command c) = told
 told_next k program s told (events.Fill to from) = told
 told_next k program s told events.Memory = told

@@ -150,8 +150,8 @@ module _ (k : Shape) (image : Parts) (profile : InProfile k) (made : IsMade imag
     event-at : (event : Event) → Tied k (after k image.instrs s event) (told_next k image.instrs s told event)
         → Stands image (after k image.instrs s event).engine.core.place
         (exact k (after k image.instrs s event).engine (told_next k image.instrs s told event))
-    event-at (events.Issue core op w) t =
-        stays (after k image.instrs s (events.Issue core op w)) (taken-same s s core (issue_taken k s core op w) refl)
+    event-at (events.Issue core w op) t =
+        stays (after k image.instrs s (events.Issue core w op)) (taken-same s s core (issue_taken k s core op w) refl)
     event-at (events.Command core) t =
         stays (after k image.instrs s (events.Command core)) (taken-same s (without_command s core) core (command_taken k s core) refl)
     event-at (events.Fill to from) t =

@@ -162,9 +162,11 @@ command-answers k cache c (rows.UcBlk _ _ addr word) =
     operation-answers None cache.busy (λ way op. table.word_row cache c way addr word op)
     (λ way op. word-answers None cache c way addr word op)
 command-answers k cache c (rows.UcDone _ _ addr) =
-    operation-answers None cache.busy (λ way op. table.written_row cache c way addr op) (λ way op. written-answers None cache c way addr op)
+    operation-answers None cache.busy (λ way op. table.written_row cache c way addr op)
+    (λ way op. written-answers None cache c way addr op)
 command-answers k cache c (rows.Done _ _ addr) =
-    operation-answers None cache.busy (λ way op. table.evicted_row cache c way addr op) (λ way op. evicted-answers None cache c way addr op)
+    operation-answers None cache.busy (λ way op. table.evicted_row cache c way addr op)
+    (λ way op. evicted-answers None cache c way addr op)
 command-answers k cache c m = tt
 
 fill-answers : (k : Shape) (cache : CacheState) (c : ℕ) (m : Row) → AnswersIn None (table.fill k cache c m)
@@ -177,7 +179,8 @@ taken-answers peer row taken h e = subst (AnswersIn peer) e h
 
 -- ROOM
 
-room-asked : (y : Hardware) (c : ℕ) (sent : Option Row) → Asks sent → 1 ≤ room y.requests c → vec_len y.history < vec_capacity y.history
+room-asked : (y : Hardware) (c : ℕ) (sent : Option Row) → Asks sent → 1 ≤ room y.requests c
+    → vec_len y.history < vec_capacity y.history
     → HasRoomFor y c sent
 room-asked y c None h request history = record {
   request = λ m e n. request;
@@ -189,7 +192,8 @@ room-asked y c (Some m) h request history = record {
   request = λ o e n. request;
   response = λ o e n. let same : m ≡ o = cc in absurd (let other : networks.Request ≡ networks.Response = sym h
       ∙ ap network_of same ∙ n in cc);
-  fill = λ o e n. let same : m ≡ o = cc in absurd (let other : networks.Request ≡ networks.Fill = sym h ∙ ap network_of same ∙ n in cc);
+  fill = λ o e n. let same : m ≡ o = cc in absurd
+      (let other : networks.Request ≡ networks.Fill = sym h ∙ ap network_of same ∙ n in cc);
   history = history;
 }
 

@@ -18,12 +18,14 @@ use Rattle.bk_system.specs.Numbering.{caches_of, AreIdle}
 use Rattle.bk_system.proofs.CacheList.{caches-set}
 
 -- what a word says of the caches from a start on
-bit-on : (inside idle : Bool) (bit : ℕ) → bit ≡ (if inside && idle then 1 else 0) → bit ≡ 1 → (inside ≡ true) × (idle ≡ true)
+bit-on : (inside idle : Bool) (bit : ℕ) → bit ≡ (if inside && idle then 1 else 0) → bit ≡ 1
+    → (inside ≡ true) × (idle ≡ true)
 bit-on true true bit e h = (refl, refl)
 bit-on true false bit e h = absurd (omega arith)
 bit-on false idle bit e h = absurd (omega arith)
 
-bit-off : (inside idle : Bool) (bit : ℕ) → bit ≡ (if inside && idle then 1 else 0) → bit ≡ 0 → inside ≡ true → idle ≡ false
+bit-off : (inside idle : Bool) (bit : ℕ) → bit ≡ (if inside && idle then 1 else 0) → bit ≡ 0 → inside ≡ true
+    → idle ≡ false
 bit-off true true bit e h i = absurd (omega arith)
 bit-off true false bit e h i = refl
 bit-off false idle bit e h i = absurd (cc)
@@ -74,7 +76,8 @@ idle-after y c z busy later l is now j lj =
     let there : c < length y.arrays.items = omega (arith, y.arrays.ok.0, y.each, l) in
     let old : ℕ → CacheState = caches_of y.config y.arrays.items in
     now j lj ∙ by (eqb j c) (λ e. at j e) (y.idlers j lj)
-    ∙ ap (λ (f : ℕ → CacheState). if nat_lt j n && is_none (f j).busy then 1 else 0) (sym (caches-set y.config y.arrays.items c z there))
+    ∙ ap (λ (f : ℕ → CacheState). if nat_lt j n && is_none (f j).busy then 1 else 0)
+    (sym (caches-set y.config y.arrays.items c z there))
   where
     at : (j : ℕ) → eqb j c ≡ true → nat_lt j y.config.caches ≡ true
     at j e = grind (arith, nat_tests, l)
@@ -100,7 +103,8 @@ pub idle-more : (word later cache : ℕ) → ((j : ℕ) → j < 64 → bit_at wo
 unfolding put
 idle-more word later cache was now j l = now j l ∙ more (bit_at word j) (was j l)
   where
-    more : (bit : ℕ) → bit ≡ (if nat_lt j cache then 1 else 0) → cond (eqb j cache) 1 bit ≡ (if nat_lt j (cache + 1) then 1 else 0)
+    more : (bit : ℕ) → bit ≡ (if nat_lt j cache then 1 else 0)
+        → cond (eqb j cache) 1 bit ≡ (if nat_lt j (cache + 1) then 1 else 0)
     more bit e = grind (arith, nat_tests)
 
 both : (b : Bool) → ◌≡◌ {A = ℕ} (if b then 1 else 0) (if b && true then 1 else 0)

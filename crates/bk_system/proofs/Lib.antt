@@ -5,6 +5,7 @@ pub mod Empty
 pub mod Entries
 pub mod Fills
 pub mod Idle
+pub mod InternalRow
 pub mod Marks
 pub mod Nexts
 pub mod Queues

@@ -36,7 +36,8 @@ mark-holds (m ∷ ms) empty e = rw e refl
 
 -- the marks once one channel was changed
 pub marks-changed : (n later : ℕ) (xs : List Channel) (c : ℕ) (q : Channel) (v : ℕ) → c < length xs → v ≡ mark_of (items_of q)
-    → AreMarks n (queues_of xs) → ((j : ℕ) → j < 64 → bit_at later j ≡ put (bit_at n) c v j) → AreMarks later (queues_of (set xs c q))
+    → AreMarks n (queues_of xs) → ((j : ℕ) → j < 64 → bit_at later j ≡ put (bit_at n) c v j)
+    → AreMarks later (queues_of (set xs c q))
 unfolding put
 marks-changed n later xs c q v l is were now j lj =
     now j lj ∙ by (eqb j c) (were j lj) ∙ sym (ap mark_of (at-set items_of [] xs c q j l))
@@ -54,7 +55,8 @@ unfolding queue
 marks-of a = a.marked
 
 -- no channel from a number on holds a message
-next-none : (a : Channels) (from : ℕ) → ((c : ℕ) → from ≤ c → bit_at a.marks c ≡ 0) → (c : ℕ) → from ≤ c → queue a c ≡ []
+next-none : (a : Channels) (from : ℕ) → ((c : ℕ) → from ≤ c → bit_at a.marks c ≡ 0) → (c : ℕ) → from ≤ c
+    → queue a c ≡ []
 next-none a from h c l =
     elim (cases_lt c 64) [
       | inl within ↦ mark-nil (queue a c) (sym (marks-of a c within) ∙ h c l)

@@ -51,7 +51,8 @@ fill-here q place l =
     fills-at q (place / 8) (place % 8) l from ∙ ap q same
 
 -- so it is told by its head, where it is one between two of the caches
-pub fill-told : (n : ℕ) (q : ℕ → List Row) (place : ℕ) (r : Option (Bor Row)) (b : Bool) → n ≤ 8 → place / 8 < n → place % 8 < n
+pub fill-told : (n : ℕ) (q : ℕ → List Row) (place : ℕ) (r : Option (Bor Row)) (b : Bool) → n ≤ 8 → place / 8 < n
+    → place % 8 < n
     → option_copied r ≡ slice_get (q place) 0 → b ≡ is_some r → b ≡ has_fill n (fills_of q) place
 fill-told n q place r b few to from e h =
     let told : has_fill n (fills_of q) place ≡ is_filled (fills_of q (place / 8) (place % 8)) =

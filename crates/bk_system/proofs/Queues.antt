@@ -89,7 +89,8 @@ pub queue-at : (a b : Channels) (c : ℕ) (q : Channel) → b.queues.items ≡ s
     → queue b c ≡ items_of q
 queue-at a b c q e l = ap (λ (f : ℕ → List Row). f c) (queue-set a b c q e l) ∙ put_at (queue a) c (items_of q)
 
-pub queue-item : (a : Channels) (c : ℕ) (q : Channel) → c < vec_len a.queues → q ≡ get_or a.queues.items c q → queue a c ≡ items_of q
+pub queue-item : (a : Channels) (c : ℕ) (q : Channel) → c < vec_len a.queues → q ≡ get_or a.queues.items c q
+    → queue a c ≡ items_of q
 unfolding queue
 queue-item a c q l e =
     let lt : c < length a.queues.items = omega (arith, a.queues.ok.0) in

@@ -116,7 +116,8 @@ for-fits k engine held Memrd l = record { commands = omega arith; memory = omega
 for-fits k engine held Memww l = record { commands = omega arith; memory = omega arith }
 for-fits k engine held f l = none (need_of f)
 
-held-fits : (k : Shape) (engine : EngineState) (o : Option Held) (f : Form) → k.caches ≤ 8 → Fits (need_of f) (sends_held k engine o f)
+held-fits : (k : Shape) (engine : EngineState) (o : Option Held) (f : Form) → k.caches ≤ 8
+    → Fits (need_of f) (sends_held k engine o f)
 held-fits k engine None f l = none (need_of f)
 held-fits k engine (Some held) f l = for-fits k engine held f l
 

@@ -146,6 +146,10 @@ is_wait _ = false
 abbrev pub is_choice : Option Form → Choice → Bool
 is_choice form choice = if is_wait form then true else choice.class == CLASS_NONE && choice.source == 0
 
+-- the choice that names no channel
+abbrev pub no_channel : Choice
+no_channel = record { class = CLASS_NONE; source = 0 }
+
 -- what the engine sends goes to the ends of its channels, one message after the other
 abbrev pub commands_with : List Row → (ℕ → List Row) → ℕ → List Row
 commands_with [] channel = channel
@@ -202,7 +206,7 @@ engine_row k program s choice = if can_run k program s choice
 
 -- The row of an event, if it has one.
 abbrev pub row : Shape → List Form → State → Event → Option Happening
-row k program s (Issue c op way) = cache_row s c (issue_taken k s c op way)
+row k program s (Issue c way op) = cache_row s c (issue_taken k s c op way)
 row k program s (Command c) = cache_row (without_command s c) c (command_taken k s c)
 row k program s (Fill to from) = cache_row (without_fill s to from) to (fill_taken k s to from)
 row k program s Memory = access_row s (first s.memout)

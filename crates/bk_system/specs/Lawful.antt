@@ -7,7 +7,7 @@ use Rattle.bk_system.specs.declared.event.Event.TheVariants as events
 
 -- An operation is at a word's address: below 2^40 and a multiple of 8. (Nothing wants a bound on its value.)
 abbrev pub IsLawful : Event → Type 0
-IsLawful (events.Issue c op way) = IsAddr (address_of op)
+IsLawful (events.Issue c way op) = IsAddr (address_of op)
 IsLawful (events.Command c) = Unit {0}
 IsLawful (events.Fill to from) = Unit {0}
 IsLawful events.Memory = Unit {0}

@@ -67,7 +67,7 @@ is_rested k program s =
 -- the operations that a list of events has a cache issue, enabled or not
 abbrev pub issued_by : ℕ → List Event → List Op
 issued_by c [] = []
-issued_by c (Issue at op way ∷ events) = if at == c then op ∷ issued_by c events else issued_by c events
+issued_by c (Issue at way op ∷ events) = if at == c then op ∷ issued_by c events else issued_by c events
 issued_by c (event ∷ events) = issued_by c events
 
 -- the operations of one cache in a history

@@ -27,7 +27,7 @@ impl Hardware {
         ensures config { self.new.config ≡ self.old.config }
     {
         match event {
-            Event::Issue { cache, op, way } => self.issue(*cache, *op, *way),
+            Event::Issue { cache, way, op } => self.issue(*cache, *op, *way),
             Event::Command { cache } => self.command(*cache),
             Event::Fill { to, from } => self.fill(*to, *from),
             Event::Memory => self.access(),
@@ -40,6 +40,7 @@ impl Hardware {
     /// # Errors
     ///
     /// `AllocError` if the memory runs out; then nothing has changed.
+    #[inline(always)]
     pub fn step(&mut self, program: &[Instr], event: &Event) -> Result<bool, AllocError>
         requires { length program.now ≤ 256 }
         ensures row { IfOk result
@@ -133,7 +134,7 @@ impl Hardware {
         ensures { result ≡ is_enabled self.now.config program.now (state_of self.now) event.now }
     {
         match event {
-            Event::Issue { cache, op, way } => self.can_issue(*cache, op, *way),
+            Event::Issue { cache, way, op } => self.can_issue(*cache, op, *way),
             Event::Command { cache } => self.can_command(*cache),
             Event::Fill { to, from } => self.can_fill(*to, *from),
             Event::Memory => self.memout.head(0).is_some(),

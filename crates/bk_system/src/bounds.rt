@@ -1,4 +1,4 @@
-ghost use Rattle.std.specs.Prelude.{◌≡◌, ◌≤◌, ◌&&◌, nat_lt};
+ghost use Rattle.std.specs.Prelude.{◌≡◌, ◌≤◌, ◌<◌, ◌&&◌, nat_lt};
 
 use bk_base::Config;
 
@@ -22,6 +22,7 @@ pub(crate) fn has_way(config: Config, way: u8) -> bool
 pub(crate) fn cache_count(config: Config) -> u8
     ensures value { result ≡ config.caches }
     ensures few { result ≤ 8 }
+    ensures some { 0 < result }
 {
     config.caches
 }

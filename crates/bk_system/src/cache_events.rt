@@ -144,7 +144,8 @@ impl Hardware {
     fn take_command(&mut self, cache: u8) -> bool
         requires cache { cache < self.old.config.caches }
         requires response { 1 ≤ room self.old.responses cache }
-        requires fill { IfSome (peer_in (first ((state_of self.old).command cache))) (λ to. 1 ≤ room self.old.fills (fill_place to cache)) }
+        requires fill { IfSome (peer_in (first ((state_of self.old).command cache)))
+            (λ to. 1 ≤ room self.old.fills (fill_place to cache)) }
         requires history { vec_len self.old.history < vec_capacity self.old.history }
         ensures happens { Answers
             (cache_row (without_command (state_of self.old) cache) cache (command_taken self.old.config (state_of self.old) cache))

@@ -1,5 +1,5 @@
-ghost use Rattle.std.specs.Prelude.{◌≡◌, ◌+◌, ◌≤◌, ◌<◌, ℕ, length, vec_len, vec_capacity, OnOk, All, IfSome, slice_get, true};
-ghost use Rattle.bk_engine.specs.Step.{IsOutward};
+ghost use Rattle.std.specs.Prelude.{◌≡◌, ◌+◌, ◌≤◌, ◌<◌, ℕ, length, vec_len, vec_capacity, OnOk, All, IfSome, slice_get, true, false};
+ghost use Rattle.bk_engine.specs.Step.{IsOutward, internal_at};
 ghost use Rattle.bk_system.specs.Channels.{room};
 ghost use Rattle.bk_system.specs.Needs.{need_at, command_count, memory_count, origin_count};
 
@@ -17,7 +17,7 @@ use std::alloc::AllocError;
 
 impl Hardware {
     ghost use Rattle.bk_system.specs.Systems.{state_of};
-    ghost use Rattle.bk_system.specs.Events.{engine_row, is_choice};
+    ghost use Rattle.bk_system.specs.Events.{engine_row, is_choice, no_channel};
     ghost use Rattle.bk_system.specs.EventCalls.{HasRoomForNeed, with_sent, with_popped, Answers, Happens};
 
     /// Makes room for so many messages in the command channel of each cache. Nothing changes where memory runs out.
@@ -114,6 +114,26 @@ impl Hardware {
             Stepped::Waits(_) => false,
             Stepped::Halted(_) => false,
         }
+    }
+
+    /// The engine runs the instruction at its place, if it is internal: on registers and flags alone, or a branch, that has no reason
+    /// not to run. Answers whether it did: then that was the Engine event that names no channel, and `sent` answers nothing. If not,
+    /// nothing has changed.
+    #[inline(always)]
+    pub fn step_internal(&mut self, program: &[Instr]) -> bool
+        requires { length program.now ≤ 256 }
+        ensures internal { let core = (state_of self.old).engine.core in
+            result ≡ internal_at core (slice_get program.now core.place) }
+        ensures row { result ≡ true → engine_row self.old.config program.now (state_of self.old) no_channel
+            ≡ Some (record { state = state_of self.new; sent = self.new.sent.items }) }
+        ensures still { result ≡ false → state_of self.new ≡ state_of self.old }
+        ensures config { self.new.config ≡ self.old.config }
+    {
+        if !self.engine.step_internal(program) {
+            return false;
+        }
+        self.sent.clear();
+        true
     }
 
     /// The engine runs an instruction.

@@ -9,7 +9,7 @@ pub const MOST_SENT: usize = 16;
 #[derive(Clone, Copy, Debug, PartialEq, Eq)]
 pub enum Event {
     /// A cache begins an operation; `way` is the way of a victim, which only a cached operation uses.
-    Issue { cache: u8, op: Op, way: u8 },
+    Issue { cache: u8, way: u8, op: Op },
     /// A cache takes the head of its command channel.
     Command { cache: u8 },
     /// A cache takes the head of the fill channel from another.

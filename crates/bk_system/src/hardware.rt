@@ -15,7 +15,7 @@ use bk_msg::Message;
 use std::alloc::{AllocError, Global};
 
 /// How many fill channels there are: one for each receiver and sender of eight.
-pub(crate) const FILL_CHANNELS: u8 = 64;
+pub const FILL_CHANNELS: u8 = 64;
 
 /// The caches, the engine and the memory of a system, the channels between them, and what has happened in
 /// it. Contracts see the state that it stands for, as `state_of` tells, and its configuration.
@@ -42,6 +42,7 @@ pub struct Hardware {
     /// making and moving a list of sixteen messages takes many times as long as an event.
     pub(crate) sent: ArrayVec<Message, MOST_SENT>,
     ghost few_caches: { config.caches ≤ 8 },
+    ghost some_caches: { 0 < config.caches },
     ghost caches_config: { caches.config ≡ config },
     ghost engine_config: { engine.config ≡ config },
     ghost requests_config: { requests.config ≡ config },

@@ -20,5 +20,6 @@ mod quiet;
 mod sending;
 
 pub use event::{Event, MOST_SENT, Origin};
-pub use hardware::Hardware;
+pub use hardware::{FILL_CHANNELS, Hardware};
 pub use memory::MainMemory;
+pub use sending::SENDERS;

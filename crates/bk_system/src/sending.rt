@@ -16,8 +16,8 @@ use bk_base::{Done, Op};
 use bk_msg::{Message, Network};
 use std::alloc::AllocError;
 
-/// How many senders the fill channels of a receiver have room for.
-pub(crate) const SENDERS: u8 = 8;
+/// How many senders the places of the fill channels to a cache have room for.
+pub const SENDERS: u8 = 8;
 
 /// The place of the fill channel to a cache from another.
 pub(crate) fn fill_place(to: u8, from: u8) -> u8
@@ -43,7 +43,8 @@ pub(crate) fn send(
     requires responses_config { responses.old.config ≡ fills.old.config }
     requires request { (m : Row) → sent.now ≡ Some m → network_of m ≡ Request → 1 ≤ room requests.old cache }
     requires response { (m : Row) → sent.now ≡ Some m → network_of m ≡ Response → 1 ≤ room responses.old cache }
-    requires fill { (m : Row) → sent.now ≡ Some m → network_of m ≡ Fill → 1 ≤ room fills.old (fill_place (receiver_of m) cache) }
+    requires fill { (m : Row) → sent.now ≡ Some m → network_of m ≡ Fill
+        → 1 ≤ room fills.old (fill_place (receiver_of m) cache) }
     requires within { (m : Row) → sent.now ≡ Some m → IsWithin fills.old.config m }
     ensures requests { queue requests.new ≡ requests_with cache sent.now (queue requests.old) }
     ensures responses { queue responses.new ≡ responses_with cache sent.now (queue responses.old) }

@@ -5,7 +5,8 @@ use Rattle.bk_base.specs.Counting.{is_nil}
 use Rattle.bk_system.proofs.channel.Channel.is_empty.Goals as goal
 
 -- the list after the ring is empty where the ring is
-parts-nil : {X : Type 0} (xs ys : List X) (n : ℕ) → n ≡ length ys → (0 < n → length xs ≡ 16) → (length xs == 0) ≡ is_nil (xs ++ ys)
+parts-nil : {X : Type 0} (xs ys : List X) (n : ℕ) → n ≡ length ys → (0 < n → length xs ≡ 16)
+    → (length xs == 0) ≡ is_nil (xs ++ ys)
 parts-nil [] [] n e h = refl
 parts-nil [] (y ∷ ys) n e h = absurd (let full : 0 ≡ 16 = h (omega arith) in omega arith)
 parts-nil (x ∷ xs) ys n e h = grind (arith, nat_tests)

@@ -1,4 +1,4 @@
-use Rattle.std.proofs.Common.{◌≡◌, ◌≤◌, ℕ, List, [], ap, sym, subst, ◌∙◌}
+use Rattle.std.proofs.Common.{◌≡◌, ◌<◌, ◌≤◌, ℕ, List, [], ap, sym, subst, ◌∙◌}
 use Rattle.bk_base.specs.declared.op.Done.{Done}
 use Rattle.bk_system.specs.Numbering.{fills_of, AreCounts}
 use Rattle.bk_system.proofs.Fills.{fills-none}
@@ -26,6 +26,7 @@ invariant_of-result c =
     let count : c.cache_count-count.result ≡ c.args.config.caches = c.cache_count-count.ensures.value in
     record {
       few_caches = subst (λ (n : ℕ). n ≤ 8) count c.cache_count-count.ensures.few;
+      some_caches = subst (λ (n : ℕ). 0 < n) count c.cache_count-count.ensures.some;
       caches_config = c.in_ok-make.ensures.config;
       engine_config = c.in_ok-make-2.ensures.config;
       requests_config = c.in_ok-make-3.ensures.config;
