@@ -20,18 +20,18 @@ fn an_event_runs_only_where_it_is_enabled(rt: HostRuntime) -> Result<(), Fail> {
     let mut hardware = Hardware::make(rt.alloc(), config)?;
     let issue = Event::Issue {
         cache: 1,
-        op: Op::Load(addr),
         way: 0,
+        op: Op::Load(addr),
     };
     let nowhere = Event::Issue {
         cache: 2,
-        op: Op::UcLoad(addr),
         way: 0,
+        op: Op::UcLoad(addr),
     };
     let no_way = Event::Issue {
         cache: 0,
-        op: Op::UcLoad(addr),
         way: 2,
+        op: Op::UcLoad(addr),
     };
     let engine = Event::Engine {
         choice: Choice {
@@ -75,8 +75,8 @@ fn a_system_names_its_least_event(rt: HostRuntime) -> Result<(), Fail> {
     let program = [wait];
     let issue = Event::Issue {
         cache: 1,
-        op: Op::UcLoad(Addr::make(0x40).ok_or("no address")?),
         way: 0,
+        op: Op::UcLoad(Addr::make(0x40).ok_or("no address")?),
     };
     assert!(rt; system.quiet(&program));
     assert_eq!(rt; system.least_enabled(&program, &trace), Some(issue));
@@ -98,8 +98,8 @@ fn an_issue_sends_its_request(rt: HostRuntime) -> Result<(), Fail> {
     let mut hardware = Hardware::make(rt.alloc(), config)?;
     let issue = Event::Issue {
         cache: 1,
-        op: Op::Store(addr, 7),
         way: 1,
+        op: Op::Store(addr, 7),
     };
     assert!(rt; hardware.step(&[], &issue)?, "the cache is idle");
     assert_eq!(rt; hardware.sent(), [Message::wr(1, 1, addr)].as_slice());
@@ -146,13 +146,13 @@ fn enabled_events_and_their_messages(rt: HostRuntime) -> Result<(), Fail> {
     let address = Addr::make(0x40).ok_or("an address")?;
     let store = |cache| Event::Issue {
         cache,
-        op: Op::UcStore(address, 7),
         way: 0,
+        op: Op::UcStore(address, 7),
     };
     let load = Event::Issue {
         cache: 1,
-        op: Op::UcLoad(address),
         way: 1,
+        op: Op::UcLoad(address),
     };
     // The second store and the second wait are not enabled: the cache has an operation, the engine a head.
     let events = [

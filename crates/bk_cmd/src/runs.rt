@@ -151,8 +151,8 @@ fn engine(class: u8, source: u8) -> Event {
 fn push_issue(events: &mut Vec<Event>, cache: u8, op: &Op, sweeps: u32) -> Result<(), Fail> {
     events.push(Event::Issue {
         cache,
-        op: *op,
         way: 0,
+        op: *op,
     })?;
     for _ in 0..sweeps {
         for _ in 0..24 {

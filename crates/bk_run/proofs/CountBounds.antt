@@ -20,7 +20,7 @@ at_most_higher e e2 n m2 counts le le2 most = grind arith
 
 -- one more event
 pub at_most_event : (e n : ℕ) (counts : Counts) (event : Event) → IsAtMost e n counts → IsAtMost (e + 1) n (count_event counts event)
-at_most_event e n counts (kinds.Issue c op w) most = grind arith
+at_most_event e n counts (kinds.Issue c w op) most = grind arith
 at_most_event e n counts (kinds.Command c) most = grind arith
 at_most_event e n counts (kinds.Fill to from) most = grind arith
 at_most_event e n counts kinds.Memory most = grind arith

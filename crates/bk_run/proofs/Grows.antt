@@ -33,7 +33,7 @@ access-grows s None = tt
 access-grows s (Some m) = ([], sym (append-nil s.history))
 
 pub row-grows : (k : Shape) (program : List Form) (s : State) (event : Event) → Each (HasGrown s.history) (row k program s event)
-row-grows k program s (Issue c op way) = cache-grows s c (issue_taken k s c op way)
+row-grows k program s (Issue c way op) = cache-grows s c (issue_taken k s c op way)
 row-grows k program s (Command c) = cache-grows (without_command s c) c (command_taken k s c)
 row-grows k program s (Fill to from) = cache-grows (without_fill s to from) to (fill_taken k s to from)
 row-grows k program s Memory = access-grows s (first s.memout)
@@ -60,6 +60,7 @@ more-through s happening lines finished grown through c l =
 
 -- The caches that have no operation left have none after an event.
 pub still-through : (k : Shape) (program : List Form) (s : State) (event : Event) (happening : Happening) (lines : List (ℕ × Op))
-    (finished : ℕ) → row k program s event ≡ Some happening → AreThrough s lines finished → AreThrough happening.state lines finished
+    (finished : ℕ) → row k program s event ≡ Some happening → AreThrough s lines finished
+    → AreThrough happening.state lines finished
 still-through k program s event happening lines finished made through =
     more-through s happening lines finished (subst (Each (HasGrown s.history)) made (row-grows k program s event)) through

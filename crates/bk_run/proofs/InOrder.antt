@@ -22,7 +22,7 @@ use Rattle.bk_run.proofs.Begun.{begun, operation_in, Moves, Begins, issue-begins
 -- what a cache issues in one event and those after it
 issued_by-cons : (c : ℕ) (event : Event) (events : List Event)
     → issued_by c (event ∷ events) ≡ issued_by c (event ∷ []) ++ issued_by c events
-issued_by-cons c (Issue at op way) events = whether (eqb at c)
+issued_by-cons c (Issue at way op) events = whether (eqb at c)
   where
     whether : (b : Bool) → cond b (op ∷ issued_by c events) (issued_by c events) ≡ cond b (op ∷ []) [] ++ issued_by c events
     whether true = refl
@@ -74,12 +74,12 @@ issue-each k s at op way = under-each (Begins (s.caches at) at op) (nat_lt at k.
     (issue k (s.caches at) at op way) (issue-begins k (s.caches at) at op way)
 
 issue-some : (k : Shape) (program : List Form) (s : State) (at : ℕ) (op : Op) (way : ℕ)
-    → IsTrue (is_enabled k program s (Issue at op way))
+    → IsTrue (is_enabled k program s (Issue at way op))
     → IsTrue (is_some (issue_taken k s at op way))
 issue-some k program s at op way enabled = subst (λ (b : Bool). IsTrue b) (taken-some s at (issue_taken k s at op way)) enabled
 
 issue-idle : (k : Shape) (program : List Form) (s : State) (at : ℕ) (op : Op) (way : ℕ)
-    → IsTrue (is_enabled k program s (Issue at op way))
+    → IsTrue (is_enabled k program s (Issue at way op))
     → operation_in (s.caches at).busy ≡ []
 issue-idle k program s at op way enabled =
     begins-idle s at op (issue_taken k s at op way) (issue-each k s at op way) (issue-some k program s at op way enabled)
@@ -118,7 +118,7 @@ none-more c s later e = e ∙ sym (append-nil (begun c s))
 -- after an enabled event a cache has begun what it had, and what the event issues
 pub enabled-begun : (c : ℕ) (k : Shape) (program : List Form) (s : State) (event : Event) → IsTrue (is_enabled k program s event)
     → begun c (after k program s event) ≡ begun c s ++ issued_by c (event ∷ [])
-enabled-begun c k program s (Issue at op way) enabled =
+enabled-begun c k program s (Issue at way op) enabled =
     begins-begun c at s op (issue_taken k s at op way) (issue-each k s at op way) (issue-some k program s at op way enabled)
 enabled-begun c k program s (Command at) enabled =
     let t = without_command s at in
@@ -165,7 +165,7 @@ next-prefix c s lines op idle next p =
 picked-prefix : (c : ℕ) (k : Shape) (program : List Form) (lines : List (ℕ × Op)) (s : State) (event : Event)
     → IsPicked k program s lines event → IsPrefix (begun c s) (operations_of c lines)
     → IsPrefix (begun c s ++ issued_by c (event ∷ [])) (operations_of c lines)
-picked-prefix c k program lines s (Issue at op way) picked p =
+picked-prefix c k program lines s (Issue at way op) picked p =
     whether (cases_eq at c) (issue-idle k program s at op way picked.enabled) picked.next
   where
     whether : (at ≡ c) ⊎ (at ≡ c → ⊥) → operation_in (s.caches at).busy ≡ [] → next_operation s lines at ≡ Some op

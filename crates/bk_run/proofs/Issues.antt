@@ -14,7 +14,7 @@ if-append false op zs xs ys e = e
 
 issued-append : (c : ℕ) (xs ys : List Event) → issued_by c (xs ++ ys) ≡ issued_by c xs ++ issued_by c ys
 issued-append c [] ys = refl
-issued-append c (Issue at op way ∷ xs) ys =
+issued-append c (Issue at way op ∷ xs) ys =
     if-append (at == c) op (issued_by c (xs ++ ys)) (issued_by c xs) (issued_by c ys) (issued-append c xs ys)
 issued-append c (event ∷ xs) ys = issued-append c xs ys
 
@@ -41,7 +41,7 @@ module _ (events : List Event) (i : ℕ) (event : Event) (issues : List Event) (
       ap (λ (ops : List Op). issued_by c issues ++ ops) same
       ∙ ap (λ (es : List Event). issued_by c issues ++ issued_by c es) (sym (drop-here events i event l e)) ∙ so_far
 
-pub no-issue : (c : ℕ) (event : Event) → ((at : ℕ) (op : Op) (way : ℕ) → event ≡ Issue at op way → ⊥)
+pub no-issue : (c : ℕ) (event : Event) → ((at way : ℕ) (op : Op) → event ≡ Issue at way op → ⊥)
     → issued_by c (event ∷ []) ≡ []
-no-issue c (Issue at op way) h = absurd (h at op way refl)
+no-issue c (Issue at way op) h = absurd (h at way op refl)
 no-issue c event h = refl

@@ -48,7 +48,7 @@ addressed n c (line ∷ lines) h i op e = go (line.0 == c) i e (λ j. addressed 
 
 next-lawful : (n : ℕ) (s : State) (lines : List (ℕ × Op)) (event : Event) → All (IsLine n) lines → IsNext s lines event
     → IsLawful event
-next-lawful n s lines (events.Issue c op way) h next = addressed n c lines h _ op next
+next-lawful n s lines (events.Issue c way op) h next = addressed n c lines h _ op next
 next-lawful n s lines (events.Command c) h next = tt
 next-lawful n s lines (events.Fill to from) h next = tt
 next-lawful n s lines events.Memory h next = tt

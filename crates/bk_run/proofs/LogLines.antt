@@ -9,8 +9,8 @@ use Rattle.bk_system.specs.declared.event.Event.TheVariants.{Issue, Fill, Engine
 use Rattle.bk_run.specs.Log.{event_text, message_text}
 
 record Lines : Type 0 where
-  issue : event_text (Issue 0 (UcStore 64 7) 0) ≡ codes "I 0 US 0x40 7 0\n"
-  load : event_text (Issue 1 (UcLoad 64) 0) ≡ codes "I 1 UL 0x40 0\n"
+  issue : event_text (Issue 0 0 (UcStore 64 7)) ≡ codes "I 0 US 0x40 7 0\n"
+  load : event_text (Issue 1 0 (UcLoad 64)) ≡ codes "I 1 UL 0x40 0\n"
   fill : event_text (Fill 2 5) ≡ codes "F 2 5\n"
   engine : event_text (Engine (record { class = 3; source = 1 })) ≡ codes "E 3 1\n"
 

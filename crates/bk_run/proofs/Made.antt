@@ -41,7 +41,8 @@ under-none false o h = refl
 
 -- a Command, a Fill and Memory wait for a message
 
-command-empty : (k : Shape) (program : List Form) (s : State) (c : ℕ) → s.command c ≡ [] → if_enabled k program s (Command c) ≡ None
+command-empty : (k : Shape) (program : List Form) (s : State) (c : ℕ) → s.command c ≡ []
+    → if_enabled k program s (Command c) ≡ None
 command-empty k program s c none = rowless k program s (Command c) (ap (cache_row (without_command s c) c)
     (under-none (nat_lt c k.caches) (command_of k s c (first (s.command c))) (ap (λ ms. command_of k s c (first ms)) none)))
 
@@ -52,7 +53,8 @@ still k program s choice h = rowless k program s (Engine choice) (rw h refl)
 
 -- an instruction other than `wfq` takes no head
 pub head-unwanted : (k : Shape) (program : List Form) (s : State) (class source : ℕ)
-    → is_wait (slice_get program s.engine.core.place) ≡ false → (class == CLASS_NONE) ≡ false → engine_event k program s class source ≡ None
+    → is_wait (slice_get program s.engine.core.place) ≡ false → (class == CLASS_NONE) ≡ false
+    → engine_event k program s class source ≡ None
 head-unwanted k program s class source waits differs = still k program s (choice_of class source)
     (and_left (nat_lt source k.caches && is_choice (slice_get program s.engine.core.place) (choice_of class source)) _
     (and_right (nat_lt source k.caches) (is_choice (slice_get program s.engine.core.place) (choice_of class source))
@@ -97,18 +99,21 @@ pub none-below : {X : Type 0} (n : ℕ) (f : ℕ → Option X) → ((i : ℕ) �
 none-below zero f h = refl
 none-below (suc n) f h = rw (none-below n f (λ i l. h i (omega arith)), h n (omega arith)) refl
 
-found-below : {X : Type 0} (n i : ℕ) (f : ℕ → Option X) (x : X) → i < n → ((j : ℕ) → j < i → f j ≡ None) → f i ≡ Some x
+found-below : {X : Type 0} (n i : ℕ) (f : ℕ → Option X) (x : X) → i < n → ((j : ℕ) → j < i → f j ≡ None)
+    → f i ≡ Some x
     → first_below n f ≡ Some x
 found-below n i f x l before e = first_below-found n i f x l (none-below i f before) e
 
 -- none has an answer before the next one that passes
-pub none-before : {X : Type 0} (n start c : ℕ) (f : ℕ → Option X) (test : ℕ → Bool) → ((i : ℕ) → test i ≡ false → f i ≡ None)
+pub none-before : {X : Type 0} (n start c : ℕ) (f : ℕ → Option X) (test : ℕ → Bool)
+    → ((i : ℕ) → test i ≡ false → f i ≡ None)
     → ((i : ℕ) → i < start → f i ≡ None) → IsNextOf n start test c → (i : ℕ) → i < c → f i ≡ None
 none-before n start c f test skip before next i l =
     elim (cases_lt i start) [ inl early ↦ before i early | inr late ↦ skip i (next.least i late l) ]
 
 -- nor up to it, where it has none either
-pub none-next : {X : Type 0} (n start c : ℕ) (f : ℕ → Option X) (test : ℕ → Bool) → ((i : ℕ) → test i ≡ false → f i ≡ None)
+pub none-next : {X : Type 0} (n start c : ℕ) (f : ℕ → Option X) (test : ℕ → Bool)
+    → ((i : ℕ) → test i ≡ false → f i ≡ None)
     → ((i : ℕ) → i < start → f i ≡ None) → IsNextOf n start test c → f c ≡ None → (i : ℕ) → i < c + 1 → f i ≡ None
 none-next n start c f test skip before next e i l =
     elim (cases_eq i c) [
@@ -123,13 +128,15 @@ pub found-next : {X : Type 0} (n start c : ℕ) (f : ℕ → Option X) (test : �
 found-next n start c f test x skip before next e = found-below n c f x next.within (none-before n start c f test skip before next) e
 
 -- none that passes is left
-pub none-left : {X : Type 0} (n start : ℕ) (f : ℕ → Option X) (test : ℕ → Bool) → ((i : ℕ) → test i ≡ false → f i ≡ None)
+pub none-left : {X : Type 0} (n start : ℕ) (f : ℕ → Option X) (test : ℕ → Bool)
+    → ((i : ℕ) → test i ≡ false → f i ≡ None)
     → ((i : ℕ) → i < start → f i ≡ None) → IsNoneFrom n start test → first_below n f ≡ None
 none-left n start f test skip before none = none-below n f (λ i l.
     elim (cases_lt i start) [ inl early ↦ before i early | inr late ↦ skip i (none i late l) ])
 
 -- all were asked
-pub none-asked : {X : Type 0} (n counter start : ℕ) (f : ℕ → Option X) → ((i : ℕ) → i < start → f i ≡ None) → n ≤ counter
+pub none-asked : {X : Type 0} (n counter start : ℕ) (f : ℕ → Option X) → ((i : ℕ) → i < start → f i ≡ None)
+    → n ≤ counter
     → counter ≤ start → first_below n f ≡ None
 none-asked n counter start f before all far = none-below n f (λ i l. before i (omega arith))
 
@@ -142,7 +149,8 @@ pub command-skipped : (k : Shape) (program : List Form) (s : State) (c : ℕ) �
     → if_enabled k program s (Command c) ≡ None
 command-skipped k program s c h = command-empty k program s c (unfilled (s.command c) h)
 
-pub memory-skipped : (k : Shape) (program : List Form) (s : State) → is_filled s.memout ≡ false → if_enabled k program s Memory ≡ None
+pub memory-skipped : (k : Shape) (program : List Form) (s : State) → is_filled s.memout ≡ false
+    → if_enabled k program s Memory ≡ None
 memory-skipped k program s h = rowless k program s Memory (ap (λ ms. access_row s (first ms)) (unfilled s.memout h))
 
 -- a fill channel that is passed over is empty, or not one between two of the caches
@@ -165,7 +173,8 @@ no-head : (ms : List Row) → is_filled ms ≡ false → first ms ≡ None
 no-head [] h = refl
 no-head (m ∷ ms) h = absurd (cc)
 
-head-none : (s : State) (class c : ℕ) → (class ≡ CLASS_RESPONSE) ⊎ (class ≡ CLASS_REQUEST) → has_message (heads s class) c ≡ false
+head-none : (s : State) (class c : ℕ) → (class ≡ CLASS_RESPONSE) ⊎ (class ≡ CLASS_REQUEST)
+    → has_message (heads s class) c ≡ false
     → offered_head s (choice_of class c) ≡ None
 head-none s class c (inl same) h = rw same (no-head (s.response c) (subst (λ n. has_message (heads s n) c ≡ false) same h))
 head-none s class c (inr same) h = rw same (no-head (s.request c) (subst (λ n. has_message (heads s n) c ≡ false) same h))
@@ -212,13 +221,15 @@ square-found n place g x few to_within from_within before e =
 
 -- A LOOK and a call from a state and a configuration that are these
 
-pub none-here : (k now : Shape) (s then_state : State) (count : Shape → ℕ) (test : Shape → State → ℕ → Bool) (start : ℕ) → now ≡ k
+pub none-here : (k now : Shape) (s then_state : State) (count : Shape → ℕ) (test : Shape → State → ℕ → Bool) (start : ℕ)
+    → now ≡ k
     → then_state ≡ s → IsNoneFrom (count now) start (test now then_state) → IsNoneFrom (count k) start (test k s)
 none-here k now s then_state count test start config state h =
     subst (λ y. IsNoneFrom (count k) start (test k y)) state
     (subst (λ shape. IsNoneFrom (count shape) start (test shape then_state)) config h)
 
-pub next-here : (k now : Shape) (s then_state : State) (count : Shape → ℕ) (test : Shape → State → ℕ → Bool) (start c : ℕ) → now ≡ k
+pub next-here : (k now : Shape) (s then_state : State) (count : Shape → ℕ) (test : Shape → State → ℕ → Bool) (start c : ℕ)
+    → now ≡ k
     → then_state ≡ s → IsNextOf (count now) start (test now then_state) c → IsNextOf (count k) start (test k s) c
 next-here k now s then_state count test start c config state h =
     subst (λ y. IsNextOf (count k) start (test k y) c) state
@@ -239,7 +250,8 @@ made-none {E} k program wanted s new sent result o is none h =
     (subst (λ (r : Result (Option Event) E). Makes k program wanted s new sent r) is h)
 
 pub made-here : {E : Type 0} (k now : Shape) (program : List Form) (wanted : Shape → State → Option Event) (s then_state new : State)
-    (sent : List Row) (result : Result (Option Event) E) (o : Option Event) (event : Event) → now ≡ k → then_state ≡ s → result ≡ Ok o
+    (sent : List Row) (result : Result (Option Event) E) (o : Option Event) (event : Event) → now ≡ k → then_state ≡ s
+    → result ≡ Ok o
     → o ≡ Some event → Makes now program (wanted now then_state) then_state new sent result
     → (wanted k s ≡ Some event) × IsMade k program s new sent event
 made-here k now program wanted s then_state new sent result o event config state is some h =
@@ -248,7 +260,8 @@ made-here k now program wanted s then_state new sent result o event config state
     (made-some now program (wanted now then_state) then_state new sent result o event is some h))
 
 pub unmade-here : {E : Type 0} (k now : Shape) (program : List Form) (wanted : Shape → State → Option Event) (s then_state new : State)
-    (sent : List Row) (result : Result (Option Event) E) (o : Option Event) → now ≡ k → then_state ≡ s → result ≡ Ok o → o ≡ None
+    (sent : List Row) (result : Result (Option Event) E) (o : Option Event) → now ≡ k → then_state ≡ s → result ≡ Ok o
+    → o ≡ None
     → Makes now program (wanted now then_state) then_state new sent result → (wanted k s ≡ None) × (new ≡ s)
 unmade-here k now program wanted s then_state new sent result o config state is none h =
     subst (λ y. (wanted k y ≡ None) × (new ≡ y)) state
@@ -327,10 +340,10 @@ then-none f (Some x) h = h x
 pub ready-skipped : (k : Shape) (program : List Form) (s : State) (lines : List (ℕ × Op)) (c : ℕ) → is_idle s.caches c ≡ false
     → ready_operation k program s lines c ≡ None
 ready-skipped k program s lines c h =
-    then-none (λ op. if is_enabled k program s (Issue c op 0) then Some (c, op) else None) (next_operation s lines c) (λ op.
+    then-none (λ op. if is_enabled k program s (Issue c 0 op) then Some (c, op) else None) (next_operation s lines c) (λ op.
     let taken : issue_taken k s c op 0 ≡ None = under-none (nat_lt c k.caches && nat_lt 0 k.ways) (issue k (s.caches c) c op 0)
     (busy-none (s.caches c).busy (issue_row k (s.caches c) c op 0) h) in
-    let disabled : is_enabled k program s (Issue c op 0) ≡ false = ap (λ o. is_some (cache_row s c o)) taken in
+    let disabled : is_enabled k program s (Issue c 0 op) ≡ false = ap (λ o. is_some (cache_row s c o)) taken in
     rw disabled refl)
 
 -- what is made where no cache is ready is what the schedule takes
@@ -360,7 +373,8 @@ issue-made A k program s new sent event (Ok (Some other)) enabled h = λ e. absu
 issue-made A k program s new sent event (Ok None) enabled h = λ e. enabled-none (is_enabled k program s event) event enabled h.0
 issue-made A k program s new sent event (Err e) enabled h = tt
 
-pub issue-least : {E : Type 0} (policy : List WayView → ℕ → Type 0) (k : Shape) (program : List Form) (s new : State) (sent : List Row)
+pub issue-least : {E : Type 0} (policy : List WayView → ℕ → Type 0) (k : Shape) (program : List Form) (s new : State)
+    (sent : List Row)
     (lines : List (ℕ × Op)) (event : Event) (result : Result (Option Event) E) → IsLeast policy k program s lines event
     → Makes k program (if_enabled k program s event) s new sent result
     → IfOk result (λ o. IfSome o (λ other. IsLeast policy k program s lines other))

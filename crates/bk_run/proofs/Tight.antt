@@ -1,5 +1,5 @@
 -- The greedy schedule: what an event that it takes is, where it stands.
-use Rattle.std.proofs.Common.{◌≡◌, ℕ, zero, suc, ◌<◌, ◌≤◌, List, [], ◌∷◌, Bool, true, false, ◌&&◌, Option, Some, None, refl, subst, sym, arith}
+use Rattle.std.proofs.Common.{◌≡◌, ℕ, zero, suc, ◌<◌, ◌≤◌, List, [], ◌∷◌, Bool, true, false, ◌&&◌, Option, Some, None, refl, subst, sym, ap, ◌∙◌, arith}
 use Rattle.std.specs.Prelude.{option_and_then, option_map, if◌then◌else◌, IsTrue, is_some, nat_lt, nat_le, MatchOption}
 use Rattle.std.proofs.lemmas.Bool.{and_parts, lt-ltb, leb-true}
 use Rattle.bk_base.specs.Places.{Shape, InProfile, group_of}
@@ -7,6 +7,7 @@ use Rattle.bk_base.specs.declared.op.Op.{Op}
 use Rattle.bk_isa.specs.declared.form.Form.{Form}
 use Rattle.bk_lce.specs.declared.line.InProgress.{InProgress}
 use Rattle.bk_lce.specs.declared.line.WayView.{WayView}
+use Rattle.bk_lce.specs.CacheState.{CacheState}
 use Rattle.bk_lce.specs.Policies.{views}
 use Rattle.bk_lce.specs.CacheTable.{address_of, Transition, issue, issue_row, if_idle}
 use Rattle.bk_engine.specs.declared.parts.TheConstants.{CLASS_NONE, CLASS_RESPONSE, CLASS_MEMORY, CLASS_REQUEST}
@@ -21,7 +22,7 @@ use Rattle.bk_run.specs.Greedy.{if_enabled, next_operation, ready_operation, iss
 
 -- an Issue has the next operation of its cache in the trace
 abbrev pub IsNext : State → List (ℕ × Op) → Event → Type 0
-IsNext s lines (Issue c op way) = next_operation s lines c ≡ Some op
+IsNext s lines (Issue c way op) = next_operation s lines c ≡ Some op
 IsNext s lines event = Unit {0}
 
 -- what the greedy schedule answers at a state: an enabled event, which issues no operation but a next one
@@ -81,7 +82,7 @@ some-if false o e h = absurd (cc)
 
 -- Whether an Issue is enabled doesn't depend on its way.
 pub issue-any_way : (k : Shape) (program : List Form) (s : State) (c : ℕ) (op : Op) (v w : ℕ) → w < k.ways
-    → IsTrue (is_enabled k program s (Issue c op v)) → IsTrue (is_enabled k program s (Issue c op w))
+    → IsTrue (is_enabled k program s (Issue c v op)) → IsTrue (is_enabled k program s (Issue c w op))
 issue-any_way k program s c op v w l h =
     let taken : IsTrue (is_some (issue_taken k s c op v)) = subst (λ (b : Bool). IsTrue b) (taken-some s c (issue_taken k s c op v)) h in
     let parts = is_some-if (nat_lt c k.caches && nat_lt v k.ways) (issue k (s.caches c) c op v) taken in
@@ -102,9 +103,9 @@ enabled-picked k program s lines event next =
 ready-picked : (k : Shape) (program : List Form) (s : State) (lines : List (ℕ × Op)) (way c : ℕ) → way < k.ways
     → Each (λ at. IsPicked k program s lines (issue_with way at)) (ready_operation k program s lines c)
 ready-picked k program s lines way c l =
-    then-each (λ at. IsPicked k program s lines (issue_with way at)) (λ op. if is_enabled k program s (Issue c op 0) then Some (c, op)
+    then-each (λ at. IsPicked k program s lines (issue_with way at)) (λ op. if is_enabled k program s (Issue c 0 op) then Some (c, op)
     else None) (next_operation s lines c)
-    (λ op e. if-each (λ at. IsPicked k program s lines (issue_with way at)) (is_enabled k program s (Issue c op 0)) (c, op)
+    (λ op e. if-each (λ at. IsPicked k program s lines (issue_with way at)) (is_enabled k program s (Issue c 0 op)) (c, op)
     (λ h. record { enabled = issue-any_way k program s c op 0 way l h; next = e }))
 
 -- the least enabled event but for Issue is enabled, and so is the least of all
@@ -194,5 +195,20 @@ least-unready policy k program s lines (Some event) l none e =
 pub least-ready : (policy : List WayView → ℕ → Type 0) (k : Shape) (program : List Form) (s : State)
     (lines : List (ℕ × Op)) (c : ℕ)
     (op : Op) (way : ℕ) → way < k.ways → first_below k.caches (ready_operation k program s lines) ≡ Some (c, op)
-    → policy (views k (s.caches c) (group_of k (address_of op))) way → IsLeast policy k program s lines (Issue c op way)
+    → policy (views k (s.caches c) (group_of k (address_of op))) way → IsLeast policy k program s lines (Issue c way op)
 least-ready policy k program s lines c op way l first asked = record { way = way; within = l; least = rw first refl; asked = asked }
+
+-- the same of what was asked: the way of a cache's views at the group of an address, by the configurations that it and the trace tell
+pub least-chosen : (policy : List WayView → ℕ → Type 0) (k seen told : Shape) (program : List Form) (s : State)
+    (lines : List (ℕ × Op)) (c : ℕ) (op : Op) (cache : CacheState) (address group way : ℕ)
+    → seen ≡ k → cache ≡ s.caches c → told ≡ k → address ≡ address_of op → group ≡ group_of told address
+    → way < seen.ways → first_below k.caches (ready_operation k program s lines) ≡ Some (c, op)
+    → policy (views seen cache group) way → IsLeast policy k program s lines (Issue c way op)
+least-chosen policy k seen told program s lines c op cache address group way shape state trace at set within first answer =
+    let place : group ≡ group_of k (address_of op) =
+    set ∙ ap (λ (config : Shape). group_of config address) trace ∙ ap (group_of k) at in
+    let asked : policy (views k (s.caches c) (group_of k (address_of op))) way =
+    subst (λ (g : ℕ). policy (views k (s.caches c) g) way) place
+    (subst (λ (x : CacheState). policy (views k x group) way) state
+    (subst (λ (config : Shape). policy (views config cache group) way) shape answer)) in
+    least-ready policy k program s lines c op way (subst (λ (config : Shape). way < config.ways) shape within) first asked

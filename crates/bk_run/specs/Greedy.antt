@@ -27,10 +27,10 @@ next_operation s lines c = slice_get (operations_of c lines) (length (completed_
 -- A cache with its next operation, where the cache may issue it. That doesn't depend on the way, so it is asked with way 0.
 abbrev pub ready_operation : Shape → List Form → State → List (ℕ × Op) → ℕ → Option (ℕ × Op)
 ready_operation k program s lines c =
-    option_and_then (λ op. if is_enabled k program s (Issue c op 0) then Some (c, op) else None) (next_operation s lines c)
+    option_and_then (λ op. if is_enabled k program s (Issue c 0 op) then Some (c, op) else None) (next_operation s lines c)
 
 abbrev pub issue_with : ℕ → ℕ × Op → Event
-issue_with way at = Issue at.0 at.1 way
+issue_with way at = Issue at.0 way at.1
 
 abbrev pub choice_of : ℕ → ℕ → Choice
 choice_of class source = record { class = class; source = source }
@@ -60,7 +60,7 @@ least_enabled k program s lines way =
 
 -- the way of an Issue is one that the policy may answer to the views of the set of its address
 abbrev pub IsAsked : (List WayView → ℕ → Type 0) → Shape → State → Event → Type 0
-IsAsked policy k s (Issue c op way) = policy (views k (s.caches c) (group_of k (address_of op))) way
+IsAsked policy k s (Issue c way op) = policy (views k (s.caches c) (group_of k (address_of op))) way
 IsAsked policy k s event = Unit {0}
 
 -- The greedy schedule takes an event: it is the least that is enabled, and an Issue has a way that the policy answers.

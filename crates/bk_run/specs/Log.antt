@@ -16,7 +16,7 @@ use Rattle.bk_system.specs.Runs.{after}
 
 -- `I`, the operation as in a trace and its way; `C` and a cache; `F`, to whom and from whom; `M`; `E`, a class and a source
 abbrev pub event_text : Event → List ℕ
-event_text (Issue cache op way) = codes "I " ++ operation_text cache op ++ codes " " ++ decimal way ++ codes "\n"
+event_text (Issue cache way op) = codes "I " ++ operation_text cache op ++ codes " " ++ decimal way ++ codes "\n"
 event_text (Command cache) = codes "C " ++ decimal cache ++ codes "\n"
 event_text (Fill to from) = codes "F " ++ decimal to ++ codes " " ++ decimal from ++ codes "\n"
 event_text Memory = codes "M\n"

@@ -17,7 +17,8 @@ abbrev pub IsMade : Shape → List Form → State → State → List Row → Eve
 IsMade k program old new sent event = row k program old event ≡ Some (record { state = new; sent = sent })
 
 -- An event is wanted, or none: the call answers it and has made it. Where none is wanted, or the call fails, nothing has changed.
-abbrev pub Makes : {E : Type 0} → Shape → List Form → Option Event → State → State → List Row → Result (Option Event) E → Type 0
+abbrev pub Makes : {E : Type 0} → Shape → List Form → Option Event → State → State → List Row → Result (Option Event) E
+    → Type 0
 Makes k program wanted old new sent (Ok (Some event)) = (wanted ≡ Some event) × IsMade k program old new sent event
 Makes k program wanted old new sent (Ok None) = (wanted ≡ None) × (new ≡ old)
 Makes k program wanted old new sent (Err e) = new ≡ old

@@ -54,8 +54,8 @@ fn ready_operation(
         Some(op) => {
             let issue = Event::Issue {
                 cache,
-                op: *op,
                 way: 0,
+                op: *op,
             };
             if hardware.enabled(program, &issue) {
                 Some((cache, *op))
@@ -66,12 +66,16 @@ fn ready_operation(
     }
 }
 
-/// How many of the first caches are known to have done their whole trace, from how many were: one more, if the next one has too.
-pub(crate) fn past_finished(hardware: &Hardware, trace: &Trace, finished: u8) -> u8
+/// How many of the first caches are known to have done their whole trace after an event, from how many were before it: one more, if the
+/// next one has too. No event of the engine completes an operation.
+pub(crate) fn past_finished(hardware: &Hardware, trace: &Trace, event: &Event, finished: u8) -> u8
     requires config { trace.now.config ≡ hardware.now.config }
     requires finished { AreThrough (state_of hardware.now) trace.now.lines finished }
     ensures { AreThrough (state_of hardware.now) trace.now.lines result }
 {
+    if matches!(event, Event::Engine { .. }) {
+        return finished;
+    }
     if finished < hardware.cache_count() && trace.count(finished) <= hardware.completed(finished) {
         finished + 1
     } else {
@@ -227,7 +231,7 @@ pub(crate) fn least_of<F: Fn(&[WayView]) -> u8 + Copy + Send>(
         Some((cache, op)) => {
             let set = group_of(config, address_of(&op));
             let way = victim.choose(hardware.cache(cache), set);
-            Some(Event::Issue { cache, op, way })
+            Some(Event::Issue { cache, way, op })
         }
     }
 }

@@ -15,7 +15,7 @@ use std::alloc::{AllocError, Global};
 
 /// Writes the line of an Issue.
 fn push_issue(out: &mut String, cache: u8, op: &Op, way: u8) -> Result<(), AllocError>
-    ensures { OnOk result (string_bytes out.new ≡ string_bytes out.old ++ event_text (Issue cache op.now way)) }
+    ensures { OnOk result (string_bytes out.new ≡ string_bytes out.old ++ event_text (Issue cache way op.now)) }
 {
     out.push_str("I ")?;
     push_operation(out, cache, op)?;
@@ -27,7 +27,7 @@ fn push_event(out: &mut String, event: &Event) -> Result<(), AllocError>
     ensures { OnOk result (string_bytes out.new ≡ string_bytes out.old ++ event_text event.now) }
 {
     match event {
-        Event::Issue { cache, op, way } => push_issue(out, *cache, op, *way),
+        Event::Issue { cache, way, op } => push_issue(out, *cache, op, *way),
         Event::Command { cache } => writeln!(out, "C {cache}"),
         Event::Fill { to, from } => writeln!(out, "F {to} {from}"),
         Event::Memory => out.push_str("M\n"),

@@ -19,19 +19,15 @@ use bk_base::group_of;
 use bk_engine::{CLASS_MEMORY, CLASS_NONE, CLASS_REQUEST, CLASS_RESPONSE, Choice, names_class};
 use bk_isa::Instr;
 use bk_lce::{Victim, WayView, address_of};
-use bk_system::{Event, Hardware};
+use bk_system::{Event, FILL_CHANNELS, Hardware, SENDERS};
 use bk_trace::Trace;
 use std::alloc::AllocError;
 
 // Each function answers the event that it has made. It answers none where none is enabled, and an error where memory runs out; then
 // nothing has changed.
 
-/// How many senders the places of the fill channels to a cache have room for.
-const SENDERS: u8 = 8;
-/// How many places there are.
-const FILL_CHANNELS: u8 = 64;
-
 /// Makes an event, if it is enabled.
+#[inline(always)]
 fn make_enabled(
     hardware: &mut Hardware,
     program: &[Instr],
@@ -51,6 +47,7 @@ fn make_enabled(
 }
 
 /// Makes the Engine event of a choice, if it is enabled.
+#[inline(always)]
 fn make_choice(
     hardware: &mut Hardware,
     program: &[Instr],
@@ -65,6 +62,25 @@ fn make_choice(
 {
     let choice = Choice { class, source };
     make_enabled(hardware, program, Event::Engine { choice })
+}
+
+/// Makes the Engine event that names no channel, if it is enabled. Most are of internal instructions, which need no room.
+#[inline(always)]
+fn make_alone(hardware: &mut Hardware, program: &[Instr]) -> Result<Option<Event>, AllocError>
+    requires { length program.now ≤ 256 }
+    ensures made { Makes hardware.old.config program.now
+        (engine_event hardware.old.config program.now (state_of hardware.old) CLASS_NONE 0) (state_of hardware.old)
+        (state_of hardware.new) hardware.new.sent.items result }
+    ensures config { hardware.new.config ≡ hardware.old.config }
+{
+    if !hardware.step_internal(program) {
+        return make_choice(hardware, program, CLASS_NONE, 0);
+    }
+    let choice = Choice {
+        class: CLASS_NONE,
+        source: 0,
+    };
+    Ok(Some(Event::Engine { choice }))
 }
 
 /// The least cache from a start on whose channel of a class, of responses or of requests, holds a message.
@@ -161,6 +177,7 @@ fn make_head(
 }
 
 /// Makes the least Engine event.
+#[inline(always)]
 fn make_engine(hardware: &mut Hardware, program: &[Instr]) -> Result<Option<Event>, AllocError>
     requires { length program.now ≤ 256 }
     ensures made { Makes hardware.old.config program.now (least_engine hardware.old.config program.now (state_of hardware.old))
@@ -168,7 +185,7 @@ fn make_engine(hardware: &mut Hardware, program: &[Instr]) -> Result<Option<Even
     ensures config { hardware.new.config ≡ hardware.old.config }
 {
     match hardware.waits_for(program) {
-        None => make_choice(hardware, program, CLASS_NONE, 0),
+        None => make_alone(hardware, program),
         Some(classes) => make_head(hardware, program, classes),
     }
 }
@@ -244,6 +261,7 @@ fn make_delivery(hardware: &mut Hardware, program: &[Instr]) -> Result<Option<Ev
 }
 
 /// Makes the least enabled event of the greedy order but for Issue.
+#[inline(always)]
 fn make_other(hardware: &mut Hardware, program: &[Instr]) -> Result<Option<Event>, AllocError>
     requires { length program.now ≤ 256 }
     ensures made { Makes hardware.old.config program.now (least_other hardware.old.config program.now (state_of hardware.old))
@@ -287,7 +305,7 @@ pub(crate) fn make_least<F: Fn(&[WayView]) -> u8 + Copy + Send>(
         Some((cache, op)) => {
             let set = group_of(config, address_of(&op));
             let way = victim.choose(hardware.cache(cache), set);
-            make_enabled(hardware, program, Event::Issue { cache, op, way })
+            make_enabled(hardware, program, Event::Issue { cache, way, op })
         }
     }
 }

@@ -145,11 +145,11 @@ fn make_events<F: Fn(&[WayView]) -> u8 + Copy + Send>(
             Ok(()) => {}
             Err(e) => return Err(e),
         }
+        finished = past_finished(&counted.hardware, trace, &event, finished);
         match events.push(event) {
             Ok(()) => {}
             Err(_) => return Err(AllocError),
         }
-        finished = past_finished(&counted.hardware, trace, finished);
     }
     Ok(Made {
         counted,

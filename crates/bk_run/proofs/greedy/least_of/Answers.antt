@@ -1,13 +1,9 @@
-use Rattle.std.proofs.Common.{◌≡◌, ℕ, ◌<◌, List, sym, ap, subst, ◌∙◌}
+use Rattle.std.proofs.Common.{sym, subst, ◌∙◌}
 use Rattle.std.specs.Fn.{FnReturnsAt}
-use Rattle.bk_base.specs.Places.{Shape, InProfile, group_of}
-use Rattle.bk_lce.specs.declared.line.WayView.{WayView}
-use Rattle.bk_lce.specs.CacheState.{CacheState}
-use Rattle.bk_lce.specs.Policies.{views}
+use Rattle.bk_base.specs.Places.{InProfile}
 use Rattle.bk_lce.specs.CacheArrays as caches
-use Rattle.bk_lce.specs.CacheTable.{address_of}
 use Rattle.bk_system.specs.Systems.{state_of}
-use Rattle.bk_run.proofs.Tight.{some-ways, least-unready, least-ready}
+use Rattle.bk_run.proofs.Tight.{some-ways, least-unready, least-chosen}
 use Rattle.bk_run.proofs.greedy.least_of.Goals as goal
 
 pub returns-in-None : goal.returns-in-None
@@ -20,19 +16,8 @@ returns-in-None g c =
 
 pub returns-in-Some : goal.returns-in-Some
 returns-in-Some g c =
-    let k = c.args.hardware.now.config in
-    let s = state_of c.args.hardware.now in
-    let policy : List WayView → ℕ → Type 0 = FnReturnsAt g.F.Fn c.args.victim.now.pick in
-    let set : c.group_of-set.result ≡ group_of k (address_of c.in-Some.op) =
-    c.group_of-set.ensures.value
-    ∙ ap (λ (config : Shape). group_of config c.address_of.result) (c.config-config.ensures.value ∙ c.requires.config)
-    ∙ ap (group_of k) c.address_of.ensures in
-    let way : c.choose-way.result < k.ways =
-    subst (λ (config : Shape). c.choose-way.result < config.ways) c.cache.ensures.config c.choose-way.ensures.within in
-    let asked : policy (views k (s.caches c.in-Some.cache) (group_of k (address_of c.in-Some.op))) c.choose-way.result =
-    subst (λ (g : ℕ). policy (views k (s.caches c.in-Some.cache) g) c.choose-way.result) set
-    (subst (λ (cache : CacheState). policy (views k cache c.group_of-set.result) c.choose-way.result) c.cache.ensures.state
-    (subst (λ (config : Shape). policy (views config (caches.state_of c.cache.result.now) c.group_of-set.result) c.choose-way.result)
-    c.cache.ensures.config c.choose-way.ensures.answer)) in
-    least-ready policy k c.args.program.now s c.args.trace.now.lines c.in-Some.cache c.in-Some.op c.choose-way.result way
-    (sym c.first_ready.ensures.first ∙ c.in-Some.is) asked
+    least-chosen (FnReturnsAt g.F.Fn c.args.victim.now.pick) c.args.hardware.now.config c.cache.result.now.config
+    c.config-config.result c.args.program.now (state_of c.args.hardware.now) c.args.trace.now.lines c.in-Some.cache c.in-Some.op
+    (caches.state_of c.cache.result.now) c.address_of.result c.group_of-set.result c.choose-way.result c.cache.ensures.config
+    c.cache.ensures.state (c.config-config.ensures.value ∙ c.requires.config) c.address_of.ensures c.group_of-set.ensures.value
+    c.choose-way.ensures.within (sym c.first_ready.ensures.first ∙ c.in-Some.is) c.choose-way.ensures.answer

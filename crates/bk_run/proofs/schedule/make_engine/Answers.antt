@@ -12,6 +12,6 @@ returns-in-None-clause-made c =
     let k = c.args.hardware.now.config in
     let p = c.args.program.now in
     let s = state_of c.args.hardware.now in
-    makes-alone k p (engine_event k p s CLASS_NONE 0) (least_head k p s) s (state_of c.make_choice.new.hardware)
-    c.make_choice.new.hardware.sent.items c.make_choice.result
-    (no-heads k p s (awaits-nothing (slice_get p s.engine.core.place) (sym c.waits_for.ensures ∙ c.in-None.is))) c.make_choice.ensures.made
+    makes-alone k p (engine_event k p s CLASS_NONE 0) (least_head k p s) s (state_of c.make_alone.new.hardware)
+    c.make_alone.new.hardware.sent.items c.make_alone.result
+    (no-heads k p s (awaits-nothing (slice_get p s.engine.core.place) (sym c.waits_for.ensures ∙ c.in-None.is))) c.make_alone.ensures.made

@@ -8,5 +8,6 @@ invariant-loop l = record {
   config : l.hardware.config ≡ l.initial.hardware.config;
   state : state_of l.hardware ≡ state_of l.initial.hardware;
   far : l.counter ≤ l.start;
-  none : (i : ℕ) → i < l.start → fill_event l.initial.hardware.config l.program (state_of l.initial.hardware) (i / 8) (i % 8) ≡ None;
+  none : (i : ℕ) → i < l.start → fill_event l.initial.hardware.config l.program (state_of l.initial.hardware) (i / 8) (i % 8)
+      ≡ None;
 }
