@@ -1,5 +1,5 @@
 -- How a replay ends: what its run says, that it stayed coherent, and what is due of it.
-use Rattle.std.proofs.Common.{◌≡◌, ℕ, true, List, ◌++◌, Option, Result, Ok, Err, IfOk, IfErr, inr, sym, ap, subst}
+use Rattle.std.proofs.Common.{◌≡◌, ℕ, Bool, true, false, List, ◌++◌, Result, Ok, Err, IfOk, IfErr, inl, inr, sym, ap, subst}
 use Rattle.std.specs.List.{All}
 use Rattle.bk_base.specs.Places.{InProfile}
 use Rattle.bk_image.specs.Images as images
@@ -8,7 +8,7 @@ use Rattle.bk_trace.specs.Traces.{IsLine}
 use Rattle.bk_lce.specs.declared.line.WayView.{WayView}
 use Rattle.bk_run.specs.declared.serial_runs.LoggedRun.{LoggedRun}
 use Rattle.bk_run.specs.declared.serial_runs.SerialFault.{SerialFault}
-use Rattle.bk_run.specs.declared.serial_runs.SerialFault.TheVariants.{Spent, Memory}
+use Rattle.bk_run.specs.declared.serial_runs.SerialFault.TheVariants.{Spent, Unreported, Memory}
 use Rattle.bk_run.specs.Jobs.{job_of}
 use Rattle.bk_run.specs.Serial.{IsEnded, IsFault}
 use Rattle.bk_run.proofs.Lawful.{greedy_from-lawful}
@@ -20,12 +20,18 @@ use Rattle.bk_system.specs.declared.event.Event.{Event}
 use Rattle.bk_run.specs.Report.{IsReport}
 use Rattle.bk_cmd.specs.declared.outcome.Outcome.{Outcome}
 use Rattle.bk_cmd.specs.declared.words.Output.{Output}
-use Rattle.bk_cmd.specs.Replays.{budget_for, job_for, RunEnds, IsRunFault, log_due, IsDue, Reported, ReportedPart}
+use Rattle.bk_cmd.specs.Replays.{budget_for, job_for, RunEnds, IsRunFault, AreEvents, log_due, IsDue, Reported, ReportedPart}
 use Rattle.bk_cmd.specs.Writes.{Wrote, WrotePart}
+
+events-of : (policy : List WayView → ℕ → Type 0) (image : images.Parts) (trace : traces.Parts) (events : List Event) (complete : Bool)
+    → RunEnds policy image trace events complete → AreEvents policy image trace events
+events-of policy image trace events true h = inl h
+events-of policy image trace events false h = inr (inl h)
 
 pub fault-of : (policy : List WayView → ℕ → Type 0) (image : images.Parts) (trace : traces.Parts) (fault : SerialFault)
     → IsFault (job_for policy image trace) fault → IsRunFault policy image trace fault
 fault-of policy image trace (Spent end) h = inr (end.complete, h)
+fault-of policy image trace (Unreported end) h = events-of policy image trace end.events.items end.complete h
 fault-of policy image trace Memory h = tt
 
 -- What a run's call says of an image that is handed to it (`given`, which is the replay's) is so of the replay's image.
@@ -77,7 +83,7 @@ run-coherent policy image trace (Err fault) sound profile lines h = tt
 
 -- what is due of a run that was complete, where the sink took all of it and where it took a part
 module _ (policy : List WayView → ℕ → Type 0) (output : Output) (image : images.Parts) (trace : traces.Parts) (o : Outcome)
-    (before after : Option (List ℕ))
+    (before after : List ℕ)
     (es : List Event) (log report : List ℕ) (is : o.events.items ≡ es) (ended : RunEnds policy image trace es true)
     (coherent : StaysCoherent trace.config image.instrs es) (is_report : IsReport trace.config image.instrs trace.lines es report)
     (is_log : log ≡ log_due output image trace es) where

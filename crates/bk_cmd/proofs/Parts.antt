@@ -1,6 +1,5 @@
 -- The first bytes of two texts, one behind the other.
-use Rattle.std.proofs.Common.{◌≡◌, ℕ, suc, ◌+◌, ◌<◌, List, [], ◌∷◌, ◌++◌, length, take, Option, Some, None, refl, ap, sym, ◌∙◌, append_assoc, arith, length-append}
-use Rattle.bk_outer.specs.Sink.{appended}
+use Rattle.std.proofs.Common.{◌≡◌, ℕ, suc, ◌+◌, ◌<◌, List, [], ◌∷◌, ◌++◌, length, take, refl, ap, sym, ◌∙◌, append_assoc, arith, length-append}
 
 take_both : (number n : ℕ) (first second : List ℕ) → number ≡ length first + n
     → take number (first ++ second) ≡ first ++ take n second
@@ -12,17 +11,12 @@ take_both number n (b ∷ first) second e =
     ap (λ (i : ℕ). take i (b ∷ (first ++ second))) next
     ∙ ap (λ (bytes : List ℕ). b ∷ bytes) (take_both (length first + n) n first second refl)
 
-appended_both : (first second : List ℕ) (before : Option (List ℕ)) → appended (appended before first) second
-    ≡ appended before (first ++ second)
-appended_both first second None = refl
-appended_both first second (Some bytes) = ap (λ (text : List ℕ). Some text) (append_assoc bytes first second)
-
 -- after all of the first and a part of the second, that is a part of both
-pub part_of_both : (first second : List ℕ) (before middle after : Option (List ℕ)) (n : ℕ) → middle ≡ appended before first
-    → n < length second → after ≡ appended middle (take n second)
-    → (length first + n < length (first ++ second)) × (after ≡ appended before (take (length first + n) (first ++ second)))
+pub part_of_both : (first second before middle after : List ℕ) (n : ℕ) → middle ≡ before ++ first
+    → n < length second → after ≡ middle ++ take n second
+    → (length first + n < length (first ++ second)) × (after ≡ before ++ take (length first + n) (first ++ second))
 part_of_both first second before middle after n whole part more = (
   omega (arith, length-append first second, part),
-  more ∙ ap (λ (x : Option (List ℕ)). appended x (take n second)) whole ∙ appended_both first (take n second) before
-      ∙ ap (appended before) (sym (take_both (length first + n) n first second refl)),
+  more ∙ ap (λ (bytes : List ℕ). bytes ++ take n second) whole ∙ append_assoc before first (take n second)
+      ∙ ap (λ (bytes : List ℕ). before ++ bytes) (sym (take_both (length first + n) n first second refl)),
 )

@@ -1,5 +1,5 @@
 -- How a command ends, status by status.
-use Rattle.std.specs.Prelude.{◌≡◌, ℕ, ◌⊎◌, List, [], Option, String, IsSomeAnd}
+use Rattle.std.specs.Prelude.{◌≡◌, ℕ, ◌⊎◌, List, [], String, IsSomeAnd}
 use Rattle.std.specs.Global.{Global}
 use Rattle.bk_lce.specs.declared.line.WayView.{WayView}
 use Rattle.bk_cmd.specs.declared.outcome.Outcome.{Outcome}
@@ -21,15 +21,13 @@ pub record SaysText (files : Files) (command : Command) (Holds : List ℕ → Ty
   pub holds : Holds text
 
 -- status 0: the sink took all that is due
-abbrev pub EndsWhole : (List WayView → ℕ → Type 0) → Files → Command → Outcome → Option (List ℕ)
-    → Option (List ℕ) → Type 0
+abbrev pub EndsWhole : (List WayView → ℕ → Type 0) → Files → Command → Outcome → List ℕ → List ℕ → Type 0
 EndsWhole policy files (Replay output image trace) o before after =
     OfInputs files image trace (λ i t. Reported policy output i t o before after)
 EndsWhole policy files command o before after = SaysText files command (λ text. Wrote text o before after)
 
 -- status 7, and 1 where something was written: the sink took the first bytes of what is due, as many as are told, and no more
-abbrev pub EndsInPart : (List WayView → ℕ → Type 0) → Files → Command → Outcome → Option (List ℕ)
-    → Option (List ℕ) → Type 0
+abbrev pub EndsInPart : (List WayView → ℕ → Type 0) → Files → Command → Outcome → List ℕ → List ℕ → Type 0
 EndsInPart policy files (Replay output image trace) o before after =
     OfInputs files image trace (λ i t. ReportedPart policy output i t o before after)
 EndsInPart policy files command o before after = SaysText files command (λ text. WrotePart text o before after)

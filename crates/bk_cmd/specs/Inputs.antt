@@ -1,5 +1,6 @@
 -- The files of a command, and what they hold.
-use Rattle.std.specs.Prelude.{◌≡◌, ℕ, List, Option, Some, Err, IfSome}
+use Rattle.std.specs.Prelude.{◌≡◌, ℕ, ◌⊎◌, List, [], ◌∷◌, ◌++◌, Option, Some, Err, IfSome}
+use Rattle.bk_outer.specs.Reads.{Reads}
 use Rattle.bk_image.specs.Faults.{Bad}
 use Rattle.bk_image.specs.Images as images
 use Rattle.bk_image.specs.Reading.{image_at}
@@ -10,14 +11,42 @@ use Rattle.bk_text.specs.Faults as text_faults
 use Rattle.bk_trace.specs.Grammar.{trace_of}
 use Rattle.bk_trace.specs.Reading.{trace_at}
 
--- What a shelf has under each name, where it tells.
-abbrev pub Files : Type 0
-Files = Option (List ℕ → Option (List ℕ))
+-- What is known of files: what a shelf has under each name, where it tells, and what its reads gave before and have given after.
+pub record Files : Type 0 where
+  pub at : Option (List ℕ → Option (List ℕ))
+  pub before : Reads
+  pub after : Reads
 
--- Of some bytes, which are the file's where the shelf tells, this holds.
+-- what a shelf tells in two of its states, by the functions that tell its files and its reads
+abbrev pub seen : {S : Type 0} → (S → Option (List ℕ → Option (List ℕ))) → (S → Reads) → S → S → Files
+seen files reads old new = record { at = files old; before = reads old; after = reads new }
+
+-- no read gave anything
+abbrev pub IsUnread : Files → Type 0
+IsUnread files = files.after ≡ files.before
+
+-- One read gave something: these bytes, of the file of this name.
+abbrev pub GaveOnly : Files → List ℕ → List ℕ → Type 0
+GaveOnly files name bytes = files.after ≡ files.before ++ (name, bytes) ∷ []
+
+-- the files up to some moment, and from it on
+abbrev pub until : Files → Reads → Files
+until files then = record files { after = then }
+
+abbrev pub since : Files → Reads → Files
+since files then = record files { before = then }
+
+-- Of the names, the first few were read, each once, in order; nothing else was.
+abbrev pub ReadsFirst : List (List ℕ) → Files → Type 0
+ReadsFirst [] files = IsUnread files
+ReadsFirst (name ∷ names) files = IsUnread files
+    ⊎ ((bytes : List ℕ) × ReadsFirst names (since files (files.before ++ (name, bytes) ∷ [])))
+
+-- The file was read, and nothing else. Of the bytes that the read gave, which are the file's where the shelf tells, this holds.
 pub record FileHolds (files : Files) (name : List ℕ) (Holds : List ℕ → Type 0) : Type 0 where
   pub bytes : List ℕ
-  pub found : IfSome files (λ at. at name ≡ Some bytes)
+  pub found : IfSome files.at (λ at. at name ≡ Some bytes)
+  pub gave : GaveOnly files name bytes
   pub holds : Holds bytes
 
 -- The file is the spelling of this image. Each image has one spelling, and no two have the same.
@@ -36,9 +65,10 @@ HasImageFault files name fault = FileHolds files name (λ bytes. image_at bytes 
 abbrev pub HasTraceFault : Files → List ℕ → text_faults.Bad → Type 0
 HasTraceFault files name fault = FileHolds files name (λ text. trace_at text ≡ Err fault)
 
--- a trace is read only after an image that is accepted
-pub record AfterImage (files : Files) (name : List ℕ) (Next : Type 0) : Type 0 where
+-- a trace is read only after an image that is accepted, and this holds of the files from then on
+pub record AfterImage (files : Files) (name : List ℕ) (Next : Files → Type 0) : Type 0 where
   pub image : images.Parts
-  pub has_image : HasImage files name image
+  pub then : Reads
+  pub has_image : HasImage (until files then) name image
   pub accepted : Accepted image
-  pub next : Next
+  pub next : Next (since files then)

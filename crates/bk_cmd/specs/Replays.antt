@@ -1,5 +1,6 @@
 -- How a replay ends, once its files are read. The policy is the relation between the views of a set and the way of a victim.
-use Rattle.std.specs.Prelude.{◌≡◌, ℕ, ◌⊎◌, List, [], ◌++◌, length, Bool, true, false, Option}
+use Rattle.std.specs.Prelude.{◌≡◌, ℕ, ◌⊎◌, List, [], ◌++◌, length, Bool, true, false}
+use Rattle.bk_outer.specs.Reads.{Reads}
 use Rattle.bk_image.specs.Images as images
 use Rattle.bk_check.specs.Accepted.{Accepted}
 use Rattle.bk_trace.specs.Traces as traces
@@ -11,21 +12,26 @@ use Rattle.bk_run.specs.Jobs.{Job, job_of}
 use Rattle.bk_run.specs.Serial.{IsEnded, IsSpent}
 use Rattle.bk_run.specs.Report.{IsReport}
 use Rattle.bk_run.specs.declared.serial_runs.SerialFault.{SerialFault}
-use Rattle.bk_run.specs.declared.serial_runs.SerialFault.TheVariants.{Spent, Memory}
+use Rattle.bk_run.specs.declared.serial_runs.SerialFault.TheVariants.{Spent, Unreported, Memory}
 use Rattle.bk_cmd.specs.declared.outcome.Outcome.{Outcome}
 use Rattle.bk_run.specs.Log.{log_of}
 use Rattle.bk_cmd.specs.declared.words.Output.{Output}
 use Rattle.bk_cmd.specs.declared.words.Output.TheVariants.{Report, LogAndReport}
-use Rattle.bk_cmd.specs.Inputs.{Files, HasImage, HasTrace}
+use Rattle.bk_cmd.specs.Inputs.{Files, until, since, HasImage, HasTrace}
 use Rattle.bk_cmd.specs.Writes.{Wrote, WrotePart}
 
--- The files are an image that is accepted, and a trace; and of these something holds.
+-- Two files were read, first this image, which is accepted, and then this trace.
+pub record AreInputs (files : Files) (image_name trace_name : List ℕ) (image : images.Parts) (trace : traces.Parts) : Type 0 where
+  pub then : Reads
+  pub has_image : HasImage (until files then) image_name image
+  pub accepted : Accepted image
+  pub has_trace : HasTrace (since files then) trace_name trace
+
+-- An image that is accepted and a trace were read, and of these something holds.
 pub record OfInputs (files : Files) (image_name trace_name : List ℕ) (Holds : images.Parts → traces.Parts → Type 0) : Type 0 where
   pub image : images.Parts
   pub trace : traces.Parts
-  pub has_image : HasImage files image_name image
-  pub accepted : Accepted image
-  pub has_trace : HasTrace files trace_name trace
+  pub inputs : AreInputs files image_name trace_name image trace
   pub holds : Holds image trace
 
 abbrev pub budget_for : images.Parts → traces.Parts → ℕ
@@ -48,14 +54,15 @@ abbrev pub EndsShort : (List WayView → ℕ → Type 0) → images.Parts → tr
 EndsShort policy image trace events =
     RunEnds policy image trace events false ⊎ ((complete : Bool) × RunIsSpent policy image trace events complete)
 
--- what a fault of a run says
-abbrev pub IsRunFault : (List WayView → ℕ → Type 0) → images.Parts → traces.Parts → SerialFault → Type 0
-IsRunFault policy image trace (Spent end) = EndsShort policy image trace end.events.items
-IsRunFault policy image trace Memory = Unit {0}
-
 -- these are all events of the run
 abbrev pub AreEvents : (List WayView → ℕ → Type 0) → images.Parts → traces.Parts → List Event → Type 0
 AreEvents policy image trace events = RunEnds policy image trace events true ⊎ EndsShort policy image trace events
+
+-- what a fault of a run says
+abbrev pub IsRunFault : (List WayView → ℕ → Type 0) → images.Parts → traces.Parts → SerialFault → Type 0
+IsRunFault policy image trace (Spent end) = EndsShort policy image trace end.events.items
+IsRunFault policy image trace (Unreported end) = AreEvents policy image trace end.events.items
+IsRunFault policy image trace Memory = Unit {0}
 
 -- the log of a run, where it is asked for
 abbrev pub log_due : Output → images.Parts → traces.Parts → List Event → List ℕ
@@ -70,7 +77,7 @@ pub record IsDue (output : Output) (image : images.Parts) (trace : traces.Parts)
 
 -- The run is complete, it was coherent after each of its events, and all that is due of it was taken.
 pub record Reported (policy : List WayView → ℕ → Type 0) (output : Output) (image : images.Parts) (trace : traces.Parts) (o : Outcome)
-    (before after : Option (List ℕ)) : Type 0 where
+    (before after : List ℕ) : Type 0 where
   pub ended : RunEnds policy image trace o.events.items true
   pub coherent : StaysCoherent trace.config image.instrs o.events.items
   pub text : List ℕ
@@ -80,7 +87,7 @@ pub record Reported (policy : List WayView → ℕ → Type 0) (output : Output)
 -- The same, and not all that is due of it was taken.
 pub record ReportedPart (policy : List WayView → ℕ → Type 0) (output : Output) (image : images.Parts) (trace : traces.Parts)
     (o : Outcome)
-    (before after : Option (List ℕ)) : Type 0 where
+    (before after : List ℕ) : Type 0 where
   pub ended : RunEnds policy image trace o.events.items true
   pub coherent : StaysCoherent trace.config image.instrs o.events.items
   pub text : List ℕ

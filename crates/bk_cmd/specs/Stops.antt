@@ -8,8 +8,8 @@ use Rattle.bk_image.specs.Reading.{image_at}
 use Rattle.bk_text.specs.Faults as text_faults
 use Rattle.bk_trace.specs.Traces as traces
 use Rattle.bk_cmd.specs.Answers.{Answer, Due, Refuses, Fault, bad_at, VerdictOn, SaysOf, drawn_text}
-use Rattle.bk_cmd.specs.Inputs.{Files, FileHolds, HasImageFault, HasTraceFault, AfterImage}
-use Rattle.bk_cmd.specs.Words.{Command, OfFile, Source, Generate, Replay, file_of}
+use Rattle.bk_cmd.specs.Inputs.{Files, IsUnread, FileHolds, HasImageFault, HasTraceFault, AfterImage}
+use Rattle.bk_cmd.specs.Words.{Command, OfFile, Source, Generate, Replay}
 use Rattle.bk_cmd.specs.declared.outcome.Unread as unread
 use Rattle.bk_cmd.specs.declared.outcome.Unread.TheVariants.{Absent, Failed, TooLong}
 use Rattle.bk_cmd.specs.declared.outcome.Stop.{Stop}
@@ -45,16 +45,17 @@ GivesAnswer (Err _) Says = ⊥
 
 -- ---- files that gave no bytes
 
--- the shelf counted it; where it tells its files, there is none of the name, or it is over the limit
-abbrev pub IsUnread : Files → List ℕ → Type 0 → Type 0 → unread.Unread → Type 0
-IsUnread files name failed missed Absent = missed × IfSome files (λ at. at name ≡ None)
-IsUnread files name failed missed Failed = failed
-IsUnread files name failed missed TooLong = missed × IfSome files (λ at. IsSomeAnd (at name) (λ bytes. FILE_LIMIT < length bytes))
+-- Nothing was read, and the shelf counted it. Where it tells its files, there is none of the name, or it is over the limit.
+abbrev pub GaveNone : Files → List ℕ → Type 0 → Type 0 → unread.Unread → Type 0
+GaveNone files name failed missed Absent = IsUnread files × missed × IfSome files.at (λ at. at name ≡ None)
+GaveNone files name failed missed Failed = IsUnread files × failed
+GaveNone files name failed missed TooLong = IsUnread files × missed
+    × IfSome files.at (λ at. IsSomeAnd (at name) (λ bytes. FILE_LIMIT < length bytes))
 
 -- a file gave no bytes, or memory ran out
 abbrev pub IsReadStop : Files → List ℕ → ℕ → Type 0 → Type 0 → Stop → Type 0
 IsReadStop files name number failed missed Memory = Unit {0}
-IsReadStop files name number failed missed (Unread file cause) = (file ≡ number) × IsUnread files name failed missed cause
+IsReadStop files name number failed missed (Unread file cause) = (file ≡ number) × GaveNone files name failed missed cause
 IsReadStop files name number failed missed _ = ⊥
 
 -- the verdict refuses the image of a file
@@ -64,7 +65,7 @@ ImageIsRefused files name at obligation = FileHolds files name (λ bytes. Verdic
 -- of the image of a replay
 abbrev pub IsImageStop : Files → List ℕ → Type 0 → Type 0 → Stop → Type 0
 IsImageStop files name failed missed Memory = Unit {0}
-IsImageStop files name failed missed (Unread file cause) = (file ≡ 1) × IsUnread files name failed missed cause
+IsImageStop files name failed missed (Unread file cause) = (file ≡ 1) × GaveNone files name failed missed cause
 IsImageStop files name failed missed (Bad file at column kind) = (file ≡ 1) × (column ≡ 0) × HasImageFault files name (bad_at at kind)
 IsImageStop files name failed missed (Refused refusal) = ImageIsRefused files name refusal.at refusal.obligation
 IsImageStop files name failed missed _ = ⊥
@@ -72,24 +73,17 @@ IsImageStop files name failed missed _ = ⊥
 -- of its trace
 abbrev pub IsTraceStop : Files → List ℕ → Type 0 → Type 0 → Stop → Type 0
 IsTraceStop files name failed missed Memory = Unit {0}
-IsTraceStop files name failed missed (Unread file cause) = (file ≡ 2) × IsUnread files name failed missed cause
+IsTraceStop files name failed missed (Unread file cause) = (file ≡ 2) × GaveNone files name failed missed cause
 IsTraceStop files name failed missed (Bad file at column kind) = (file ≡ 2) × HasTraceFault files name (bad_in at column kind)
 IsTraceStop files name failed missed _ = ⊥
 
 -- ---- commands
 
--- this file is the command's, and its turn comes: a trace is read after an image that is accepted
-abbrev pub Reaches : Files → Command → ℕ → Type 0
-Reaches files (OfFile question name) file = file ≡ 1
-Reaches files (Source text) file = ⊥
-Reaches files (Generate seed config operations) file = ⊥
-Reaches files (Replay output image trace) file = (file ≡ 1) ⊎ ((file ≡ 2) × AfterImage files image (Unit {0}))
-
 -- what a command says that makes no run: of the bytes of its one file, or of its words alone
 abbrev pub Says : Files → Command → Answer → Type 0
 Says files (OfFile question name) answer = FileHolds files name (λ bytes. SaysOf question bytes answer)
-Says files (Source text) answer = answer ≡ Due text
-Says files (Generate seed config operations) answer = answer ≡ Due (drawn_text seed config operations)
+Says files (Source text) answer = IsUnread files × (answer ≡ Due text)
+Says files (Generate seed config operations) answer = IsUnread files × (answer ≡ Due (drawn_text seed config operations))
 Says files (Replay output image trace) answer = ⊥
 
 -- the verdict refuses the image: the one file of the command, or the image of a replay
@@ -101,7 +95,7 @@ IsRefused files command at obligation = Says files command (Refuses at obligatio
 abbrev pub IsBadInput : Files → List ℕ → List ℕ → ℕ → ℕ → ℕ → ℕ → Type 0
 IsBadInput files image trace file at column kind =
     ((file ≡ 1) × (column ≡ 0) × HasImageFault files image (bad_at at kind))
-    ⊎ ((file ≡ 2) × AfterImage files image (HasTraceFault files trace (bad_in at column kind)))
+    ⊎ ((file ≡ 2) × AfterImage files image (λ rest. HasTraceFault rest trace (bad_in at column kind)))
 
 -- the file of this number has this fault
 abbrev pub IsBad : Files → Command → ℕ → ℕ → ℕ → ℕ → Type 0
@@ -110,10 +104,18 @@ IsBad files (Source text) file at column kind = ⊥
 IsBad files (Generate seed config operations) file at column kind = ⊥
 IsBad files (Replay output image trace) file at column kind = IsBadInput files image trace file at column kind
 
+-- the image gave no bytes; or the trace, after an image that is accepted
+abbrev pub IsMissingInput : Files → List ℕ → List ℕ → ℕ → Type 0 → Type 0 → unread.Unread → Type 0
+IsMissingInput files image trace file failed missed cause =
+    ((file ≡ 1) × GaveNone files image failed missed cause)
+    ⊎ ((file ≡ 2) × AfterImage files image (λ rest. GaveNone rest trace failed missed cause))
+
 -- the file of this number gave no bytes
 abbrev pub IsMissing : Files → Command → ℕ → Type 0 → Type 0 → unread.Unread → Type 0
-IsMissing files command file failed missed cause = Reaches files command file
-    × IfSome (file_of command file) (λ name. IsUnread files name failed missed cause)
+IsMissing files (OfFile question name) file failed missed cause = (file ≡ 1) × GaveNone files name failed missed cause
+IsMissing files (Source text) file failed missed cause = ⊥
+IsMissing files (Generate seed config operations) file failed missed cause = ⊥
+IsMissing files (Replay output image trace) file failed missed cause = IsMissingInput files image trace file failed missed cause
 
 abbrev pub IsStop : Files → Command → Type 0 → Type 0 → Stop → Type 0
 IsStop files command failed missed Memory = Unit {0}

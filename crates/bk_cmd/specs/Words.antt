@@ -73,9 +73,9 @@ command_of (command ∷ words) =
     else if bytes_eq (string_bytes command) (codes "replay") then replay_of words
     else None
 
--- the name of the first or the second file that a command names
-abbrev pub file_of : Command → ℕ → Option (List ℕ)
-file_of (OfFile question name) file = if file == 1 then Some name else None
-file_of (Source text) file = None
-file_of (Generate seed config operations) file = None
-file_of (Replay output image trace) file = if file == 1 then Some image else if file == 2 then Some trace else None
+-- the names of the files of a command, in the order in which they are read
+abbrev pub names_of : Command → List (List ℕ)
+names_of (OfFile question name) = name ∷ []
+names_of (Source text) = []
+names_of (Generate seed config operations) = []
+names_of (Replay output image trace) = image ∷ trace ∷ []

@@ -1,8 +1,9 @@
 //! Commands that make no run: what they say of a file's bytes, or of their words.
 
-ghost use Rattle.std.specs.Prelude.{◌≡◌, ◌≤◌, IfOk, IfErr};
+ghost use Rattle.std.specs.Prelude.{◌≡◌, ◌≤◌, [], ◌∷◌, IfOk, IfErr};
 ghost use Rattle.bk_outer.specs.Counts.{Rose};
 ghost use Rattle.bk_cmd.specs.Answers.{Due, SaysOf, drawn_text};
+ghost use Rattle.bk_cmd.specs.Inputs.{seen, ReadsFirst};
 ghost use Rattle.bk_cmd.specs.Stops.{GivesAnswer, Says, IsStop};
 ghost use Rattle.bk_cmd.specs.Words.{OfFile};
 ghost use Rattle.bk_cmd.specs.declared.words.Question.TheVariants.{Verdict, Assembly, Disassembly};
@@ -92,8 +93,10 @@ pub(crate) fn answer_of<H: Shelf>(
     question: Question,
     name: &str,
 ) -> Result<Vec<u8>, Stop>
-    ensures ok { IfOk result (λ text. Says (H.files shelf.old) (OfFile question name.now) (Due text.items)) }
-    ensures err { IfErr result (IsStop (H.files shelf.old) (OfFile question name.now)
+    ensures ok { IfOk result (λ text.
+        Says (seen H.files H.reads shelf.old shelf.new) (OfFile question name.now) (Due text.items)) }
+    ensures reads { ReadsFirst (name.now ∷ []) (seen H.files H.reads shelf.old shelf.new) }
+    ensures err { IfErr result (IsStop (seen H.files H.reads shelf.old shelf.new) (OfFile question name.now)
         (Rose (H.faults shelf.old) (H.faults shelf.new)) (Rose (H.misses shelf.old) (H.misses shelf.new))) }
     ensures same_files { H.files shelf.new ≡ H.files shelf.old }
     ensures faults_kept { H.faults shelf.old ≤ H.faults shelf.new }

@@ -1,13 +1,14 @@
 //! Reading the files of a command.
 
-ghost use Rattle.std.specs.Prelude.{◌≡◌, ◌≤◌, ◌-◌, ◌^◌, Ok, Some, IfOk, IfErr, IfSome};
+ghost use Rattle.std.specs.Prelude.{◌≡◌, ◌≤◌, ◌-◌, ◌^◌, [], ◌∷◌, Ok, Some, IfOk, IfErr, IfSome};
 ghost use Rattle.bk_outer.specs.Counts.{Rose};
 ghost use Rattle.bk_image.specs.Reading.{image_at};
 ghost use Rattle.bk_image.specs.Spelling.{IsImage, spelling};
 ghost use Rattle.bk_check.specs.Accepted.{Accepted};
 ghost use Rattle.bk_trace.specs.Grammar.{trace_of};
 ghost use Rattle.bk_trace.specs.Reading.{trace_at};
-ghost use Rattle.bk_cmd.specs.Inputs.{HasImage, HasTrace};
+ghost use Rattle.bk_cmd.specs.Inputs.{seen, GaveOnly, ReadsFirst, HasImage, HasTrace};
+ghost use Rattle.bk_cmd.specs.Replays.{AreInputs};
 ghost use Rattle.bk_cmd.specs.Stops.{GivesImage, GivesTrace, IsReadStop, IsImageStop, IsTraceStop, IsStop};
 ghost use Rattle.bk_cmd.specs.Words.{Replay};
 
@@ -74,7 +75,9 @@ pub(crate) fn bytes_of<H: Shelf>(
     name: &str,
 ) -> Result<Vec<u8>, Stop>
     ensures ok { IfOk result (λ v. IfSome (H.files shelf.old) (λ at. at name.now ≡ Some v.items)) }
-    ensures err { IfErr result (IsReadStop (H.files shelf.old) name.now file
+    ensures gave { IfOk result (λ v. GaveOnly (seen H.files H.reads shelf.old shelf.new) name.now v.items) }
+    ensures reads { ReadsFirst (name.now ∷ []) (seen H.files H.reads shelf.old shelf.new) }
+    ensures err { IfErr result (IsReadStop (seen H.files H.reads shelf.old shelf.new) name.now file
         (Rose (H.faults shelf.old) (H.faults shelf.new)) (Rose (H.misses shelf.old) (H.misses shelf.new))) }
     ensures same_files { H.files shelf.new ≡ H.files shelf.old }
     ensures faults_kept { H.faults shelf.old ≤ H.faults shelf.new }
@@ -102,9 +105,10 @@ pub(crate) fn bytes_of<H: Shelf>(
 
 /// Reads the image of a replay, which is run only where it is accepted.
 fn certified_of<H: Shelf>(alloc: Global, shelf: &mut H, name: &str) -> Result<Certified, Stop>
-    ensures ok { IfOk result (λ image. HasImage (H.files shelf.old) name.now image) }
+    ensures ok { IfOk result (λ image. HasImage (seen H.files H.reads shelf.old shelf.new) name.now image) }
     ensures accepted { IfOk result (λ image. Accepted image) }
-    ensures err { IfErr result (IsImageStop (H.files shelf.old) name.now
+    ensures reads { ReadsFirst (name.now ∷ []) (seen H.files H.reads shelf.old shelf.new) }
+    ensures err { IfErr result (IsImageStop (seen H.files H.reads shelf.old shelf.new) name.now
         (Rose (H.faults shelf.old) (H.faults shelf.new)) (Rose (H.misses shelf.old) (H.misses shelf.new))) }
     ensures same_files { H.files shelf.new ≡ H.files shelf.old }
     ensures faults_kept { H.faults shelf.old ≤ H.faults shelf.new }
@@ -130,8 +134,9 @@ fn certified_of<H: Shelf>(alloc: Global, shelf: &mut H, name: &str) -> Result<Ce
 
 /// Reads the trace of a replay.
 fn trace_of<H: Shelf>(alloc: Global, shelf: &mut H, name: &str) -> Result<Trace, Stop>
-    ensures ok { IfOk result (λ trace. HasTrace (H.files shelf.old) name.now trace) }
-    ensures err { IfErr result (IsTraceStop (H.files shelf.old) name.now
+    ensures ok { IfOk result (λ trace. HasTrace (seen H.files H.reads shelf.old shelf.new) name.now trace) }
+    ensures reads { ReadsFirst (name.now ∷ []) (seen H.files H.reads shelf.old shelf.new) }
+    ensures err { IfErr result (IsTraceStop (seen H.files H.reads shelf.old shelf.new) name.now
         (Rose (H.faults shelf.old) (H.faults shelf.new)) (Rose (H.misses shelf.old) (H.misses shelf.new))) }
     ensures same_files { H.files shelf.new ≡ H.files shelf.old }
     ensures faults_kept { H.faults shelf.old ≤ H.faults shelf.new }
@@ -154,10 +159,10 @@ pub(crate) fn inputs_of<H: Shelf>(
     trace_name: &str,
 ) -> Result<Inputs, Stop>
     ensures output { IfOk result (λ i. i.output ≡ output) }
-    ensures image { IfOk result (λ i. HasImage (H.files shelf.old) image_name.now i.image) }
-    ensures accepted { IfOk result (λ i. Accepted i.image) }
-    ensures trace { IfOk result (λ i. HasTrace (H.files shelf.old) trace_name.now i.trace) }
-    ensures stop { IfErr result (IsStop (H.files shelf.old) (Replay output image_name.now trace_name.now)
+    ensures inputs { IfOk result (λ i.
+        AreInputs (seen H.files H.reads shelf.old shelf.new) image_name.now trace_name.now i.image i.trace) }
+    ensures reads { ReadsFirst (image_name.now ∷ trace_name.now ∷ []) (seen H.files H.reads shelf.old shelf.new) }
+    ensures stop { IfErr result (IsStop (seen H.files H.reads shelf.old shelf.new) (Replay output image_name.now trace_name.now)
         (Rose (H.faults shelf.old) (H.faults shelf.new)) (Rose (H.misses shelf.old) (H.misses shelf.new))) }
     ensures same_files { H.files shelf.new ≡ H.files shelf.old }
     ensures faults_kept { H.faults shelf.old ≤ H.faults shelf.new }

@@ -153,6 +153,7 @@ pub(crate) fn replay<K: Sink, F: Fn(&[WayView]) -> u8 + Copy + Send>(
             }
         }
         Err(SerialFault::Spent(end)) => ended(SPENT, end.events, 0),
+        Err(SerialFault::Unreported(end)) => ended(MEMORY, end.events, 0),
         Err(SerialFault::Memory) => stopped(alloc, Stop::Memory),
     }
 }

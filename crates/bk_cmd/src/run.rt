@@ -5,9 +5,10 @@ ghost use Rattle.std.specs.Fn.{FnReturnsAt};
 ghost use Rattle.bk_lce.specs.Policies.{IsPolicy};
 ghost use Rattle.bk_outer.specs.Counts.{Rose};
 ghost use Rattle.bk_cmd.specs.Ends.{OfCommand, EndsWhole, EndsInPart, EndsRefused, EndsBad, EndsSpent, TellsEvents};
+ghost use Rattle.bk_cmd.specs.Inputs.{seen, ReadsFirst};
 ghost use Rattle.bk_cmd.specs.Outcomes.{LeavesRest, is_status, is_after_write, is_limit};
 ghost use Rattle.bk_cmd.specs.Stops.{IsMissing};
-ghost use Rattle.bk_cmd.specs.Words.{command_of};
+ghost use Rattle.bk_cmd.specs.Words.{command_of, names_of};
 ghost use Rattle.bk_cmd.specs.declared.outcome.Unread.TheVariants as unread;
 
 use crate::answers::{answer_of, drawn};
@@ -63,42 +64,50 @@ pub fn run_plain<H: Shelf, K: Sink, F: Fn(&[WayView]) -> u8 + Copy + Send>(
     ensures usage { (result.status ≡ USAGE) ↔ (command_of words.now ≡ None) }
     ensures unread { result.status ≡ USAGE → shelf.new ≡ shelf.old }
 
-    // All that is due of the files was written, and nothing else.
+    // Of the files that the words name, the first few were read, each once, in order. Nothing else was.
+    ensures reads { OfCommand words.now (λ command.
+        ReadsFirst (names_of command) (seen H.files H.reads shelf.old shelf.new)) ⊎ (command_of words.now ≡ None) }
+
+    // All that is due of the bytes that the reads gave was written, and nothing else.
     ensures ok { result.status ≡ OK → OfCommand words.now (λ command.
-        EndsWhole (FnReturnsAt F.Fn victim.pick) (H.files shelf.old) command result (K.taken sink.old) (K.taken sink.new)) }
+        EndsWhole (FnReturnsAt F.Fn victim.pick) (seen H.files H.reads shelf.old shelf.new) command result
+        (K.taken sink.old) (K.taken sink.new)) }
 
     // The first bytes of what is due were written, as many as are told, and nothing else.
     ensures write_fault { result.status ≡ WRITE_FAULT → OfCommand words.now (λ command.
-        EndsInPart (FnReturnsAt F.Fn victim.pick) (H.files shelf.old) command result (K.taken sink.old) (K.taken sink.new)) }
+        EndsInPart (FnReturnsAt F.Fn victim.pick) (seen H.files H.reads shelf.old shelf.new) command result
+        (K.taken sink.old) (K.taken sink.new)) }
     ensures write_counted { result.status ≡ WRITE_FAULT → Rose (K.faults sink.old) (K.faults sink.new) }
     ensures memory_part { result.status ≡ MEMORY → 0 < result.written → OfCommand words.now (λ command.
-        EndsInPart (FnReturnsAt F.Fn victim.pick) (H.files shelf.old) command result (K.taken sink.old) (K.taken sink.new)) }
+        EndsInPart (FnReturnsAt F.Fn victim.pick) (seen H.files H.reads shelf.old shelf.new) command result
+        (K.taken sink.old) (K.taken sink.new)) }
     ensures memory_none { result.status ≡ MEMORY → result.written ≡ 0 → K.taken sink.new ≡ K.taken sink.old }
 
     // The verdict on an image, and a run that is not complete.
     ensures refused { result.status ≡ REFUSED → OfCommand words.now (λ command.
-        EndsRefused (H.files shelf.old) command result) }
+        EndsRefused (seen H.files H.reads shelf.old shelf.new) command result) }
     ensures spent { result.status ≡ SPENT → OfCommand words.now (λ command.
-        EndsSpent (FnReturnsAt F.Fn victim.pick) (H.files shelf.old) command result) }
-    ensures events { OfCommand words.now (λ command. TellsEvents (FnReturnsAt F.Fn victim.pick) (H.files shelf.old) command result)
+        EndsSpent (FnReturnsAt F.Fn victim.pick) (seen H.files H.reads shelf.old shelf.new) command result) }
+    ensures events { OfCommand words.now (λ command.
+        TellsEvents (FnReturnsAt F.Fn victim.pick) (seen H.files H.reads shelf.old shelf.new) command result)
         ⊎ (command_of words.now ≡ None) }
 
     // The first fault of a file; one that a list is over its limit has a status of its own.
     ensures malformed { result.status ≡ MALFORMED → OfCommand words.now (λ command.
-        EndsBad (H.files shelf.old) command result) }
+        EndsBad (seen H.files H.reads shelf.old shelf.new) command result) }
     ensures within_limits { result.status ≡ MALFORMED → is_limit result.kind ≡ false }
     ensures over_limit { result.status ≡ TOO_LONG → is_limit result.kind ≡ true → OfCommand words.now (λ command.
-        EndsBad (H.files shelf.old) command result) }
+        EndsBad (seen H.files H.reads shelf.old shelf.new) command result) }
 
     // A file that gave no bytes, and what the shelf counted.
     ensures absent { result.status ≡ ABSENT → OfCommand words.now (λ command.
-        IsMissing (H.files shelf.old) command result.file
+        IsMissing (seen H.files H.reads shelf.old shelf.new) command result.file
         (Rose (H.faults shelf.old) (H.faults shelf.new)) (Rose (H.misses shelf.old) (H.misses shelf.new)) unread.Absent) }
     ensures read_fault { result.status ≡ READ_FAULT → OfCommand words.now (λ command.
-        IsMissing (H.files shelf.old) command result.file
+        IsMissing (seen H.files H.reads shelf.old shelf.new) command result.file
         (Rose (H.faults shelf.old) (H.faults shelf.new)) (Rose (H.misses shelf.old) (H.misses shelf.new)) unread.Failed) }
     ensures too_long { result.status ≡ TOO_LONG → is_limit result.kind ≡ false → OfCommand words.now (λ command.
-        IsMissing (H.files shelf.old) command result.file
+        IsMissing (seen H.files H.reads shelf.old shelf.new) command result.file
         (Rose (H.faults shelf.old) (H.faults shelf.new)) (Rose (H.misses shelf.old) (H.misses shelf.new)) unread.TooLong) }
 
     // What stays: the sink where nothing is written, the shelf's files; no count falls.

@@ -1,3 +1,4 @@
 pub mod Counts
+pub mod Reads
 pub mod Shelf
 pub mod Sink

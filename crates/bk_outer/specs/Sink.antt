@@ -1,13 +1,8 @@
 -- What a sink has taken.
-use Rattle.std.specs.Prelude.{◌≡◌, ℕ, List, ◌++◌, length, min, take, Option, None, Some, Result, Ok, Err, IsOk, if◌then◌else◌}
+use Rattle.std.specs.Prelude.{◌≡◌, ℕ, List, ◌++◌, length, min, take, Result, Ok, Err, IsOk, if◌then◌else◌}
 use Rattle.bk_outer.specs.declared.sink.WriteAnswer.{WriteAnswer}
 use Rattle.bk_outer.specs.declared.sink.WriteAnswer.TheVariants.{Failed, Memory}
 use Rattle.bk_outer.specs.Counts.{one_more, is_failing}
-
--- the bytes so far and the next ones, where the first are told
-abbrev pub appended : Option (List ℕ) → List ℕ → Option (List ℕ)
-appended None piece = None
-appended (Some bytes) piece = Some (bytes ++ piece)
 
 -- a sink in memory: its bytes, how many it takes at a time, the numbers of the calls that fail, how many calls it has had, and its
 -- count of failures
@@ -33,3 +28,8 @@ abbrev pub WriteGives : Result ℕ WriteAnswer → Result ℕ WriteAnswer → Ty
 WriteGives expected (Ok n) = expected ≡ Ok n
 WriteGives expected (Err Memory) = IsOk expected
 WriteGives expected (Err Failed) = expected ≡ Err Failed
+
+-- a sink of the system: the bytes that it has taken, and its count of failures
+pub record SystemSink : Type 0 where
+  pub taken : List ℕ
+  pub faults : ℕ

@@ -1,7 +1,8 @@
-ghost use Rattle.std.specs.Prelude.{◌≡◌, ◌≢◌, ◌≤◌, ◌<◌, length, IfOk, IfSome};
+ghost use Rattle.std.specs.Prelude.{◌≡◌, ◌≢◌, ◌≤◌, ◌<◌, [], length, IfOk, IfSome};
 ghost use Rattle.std.specs.IoError.{error_kind};
 ghost use Rattle.bk_outer.specs.Shelf.{answer_of_open, answer_of_read};
 
+use crate::logs::ReadLog;
 use crate::shelf::{FILE_LIMIT, ReadAnswer, Shelf};
 use std::alloc::Global;
 use std::fs;
@@ -9,20 +10,21 @@ use std::io::{self, ErrorKind, Read};
 use std::marker::Model;
 use std::rt::Files;
 
-/// The files of the system, by path. It tells nothing of what they have.
+/// The files of the system, by path. It tells what its reads gave, and nothing else of what the files have.
 #[derive(Drop)]
 pub struct FileShelf<'a, R> {
     rt: &'a R,
+    log: ReadLog,
     faults: u64,
     misses: u64,
 }
 
 impl<'a, R> Model for FileShelf<'a, R> {
-    ghost use Rattle.bk_outer.specs.Shelf.{FileCounts};
+    ghost use Rattle.bk_outer.specs.Shelf.{SystemShelf};
 
-    ghost Value = { FileCounts };
+    ghost Value = { SystemShelf };
 
-    ghost view = { λ s. record { faults = s.faults; misses = s.misses } };
+    ghost view = { λ s. record { reads = s.log.reads; faults = s.faults; misses = s.misses } };
 }
 
 /// What it means that a file could not be opened: there is none, or no memory, or it is a fault.
@@ -71,31 +73,33 @@ fn read_file<R: Files>(rt: &R, alloc: Global, name: &str) -> Result<Vec<u8>, Rea
 }
 
 impl<'a, R: Files> FileShelf<'a, R> {
-    ghost use Rattle.bk_outer.specs.Shelf.{FileCounts, counted};
+    ghost use Rattle.bk_outer.specs.Shelf.{SystemShelf, noted};
 
-    /// The files of this runtime, with no failure and no miss so far.
+    /// The files of this runtime, with no read so far.
     pub fn make(rt: &'a R) -> FileShelf<'a, R>
-        ensures { result ≡ record { faults = 0; misses = 0 } }
+        ensures { result ≡ record { reads = []; faults = 0; misses = 0 } }
     {
         FileShelf {
             rt,
+            log: ReadLog::new(),
             faults: 0,
             misses: 0,
         }
     }
 
-    /// Counts a fault or a miss, where the answer of a read is one.
-    fn count(&mut self, answer: &Result<Vec<u8>, ReadAnswer>)
-        ensures after { self.new ≡ counted self.old answer.now }
+    /// Notes what a read of the name gave, or counts a fault or a miss, where its answer is one.
+    fn note(&mut self, name: &str, answer: &Result<Vec<u8>, ReadAnswer>)
+        ensures after { self.new ≡ noted self.old name.now answer.now }
         ensures faults_kept { self.old.faults ≤ self.new.faults }
         ensures misses_kept { self.old.misses ≤ self.new.misses }
     {
         match answer {
+            Ok(bytes) => self.log.note(name.as_bytes(), bytes.as_slice()),
             Err(ReadAnswer::Failed) => self.faults = self.faults.saturating_add(1),
             Err(ReadAnswer::Absent | ReadAnswer::TooLong) => {
                 self.misses = self.misses.saturating_add(1)
             }
-            _ => {}
+            Err(ReadAnswer::Memory) => {}
         }
     }
 }
@@ -105,6 +109,8 @@ impl<'a, R: Files> Shelf for FileShelf<'a, R> {
 
     ghost files = { λ _. None };
 
+    ghost reads = { λ s. s.reads };
+
     ghost faults = { λ s. s.faults };
 
     ghost misses = { λ s. s.misses };
@@ -113,7 +119,7 @@ impl<'a, R: Files> Shelf for FileShelf<'a, R> {
     /// and a read that fails midway are failures.
     fn read(&mut self, alloc: Global, name: &str) -> Result<Vec<u8>, ReadAnswer> {
         let answer = read_file(self.rt, alloc, name);
-        self.count(&answer);
+        self.note(name, &answer);
         answer
     }
 }

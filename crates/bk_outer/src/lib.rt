@@ -2,6 +2,7 @@
 #![tactic(auto)]
 
 mod file_shelf;
+mod logs;
 mod mem_shelf;
 mod mem_sink;
 mod shelf;

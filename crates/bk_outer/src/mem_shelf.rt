@@ -1,7 +1,8 @@
-ghost use Rattle.std.specs.Prelude.{◌≡◌, ◌≤◌, ◌<◌, ◌-◌, ◌^◌, Some, None, [], length, IfOk, IfSome, IsSomeAnd, MatchOption};
+ghost use Rattle.std.specs.Prelude.{◌≡◌, ◌≤◌, ◌<◌, ◌-◌, ◌^◌, Some, None, [], ◌∷◌, ◌++◌, length, IfOk, OnErr, IfSome, IsSomeAnd, MatchOption};
 ghost use Rattle.bk_outer.specs.Counts.{Rose, one_more};
 ghost use Rattle.bk_outer.specs.Shelf.{file_in, answer_of, ReadGives};
 
+use crate::logs::ReadLog;
 use crate::shelf::{FILE_LIMIT, ReadAnswer, Shelf};
 use std::alloc::Global;
 use std::marker::Model;
@@ -11,6 +12,7 @@ use std::marker::Model;
 pub struct MemShelf {
     files: Vec<(String, Vec<u8>)>,
     failing: Vec<u64>,
+    log: ReadLog,
     calls: u64,
     faults: u64,
     misses: u64,
@@ -24,6 +26,7 @@ impl Model for MemShelf {
     ghost view = { λ s. record {
       files = s.files.items;
       failing = s.failing.items;
+      reads = s.log.reads;
       calls = s.calls;
       faults = s.faults;
       misses = s.misses;
@@ -63,11 +66,12 @@ impl MemShelf {
     /// A shelf with these files, of which the first counts where two have one name.
     /// The reads whose number, counted from 1, is among `failing` fail.
     pub fn make(_alloc: Global, files: Vec<(String, Vec<u8>)>, failing: Vec<u64>) -> MemShelf
-        ensures { result ≡ record { files = files.items; failing = failing.items; calls = 0; faults = 0; misses = 0 } }
+        ensures { result ≡ record { files = files.items; failing = failing.items; reads = []; calls = 0; faults = 0; misses = 0 } }
     {
         MemShelf {
             files,
             failing,
+            log: ReadLog::new(),
             calls: 0,
             faults: 0,
             misses: 0,
@@ -80,12 +84,16 @@ impl Shelf for MemShelf {
 
     ghost files = { λ s. Some (file_in s.files) };
 
+    ghost reads = { λ s. s.reads };
+
     ghost faults = { λ s. s.faults };
 
     ghost misses = { λ s. s.misses };
 
     fn read(&mut self, alloc: Global, name: &str) -> Result<Vec<u8>, ReadAnswer>
         ensures bytes { IfOk result (λ v. file_in self.old.files name.now ≡ Some v.items) }
+        ensures noted { IfOk result (λ v. self.new.reads ≡ self.old.reads ++ (name.now, v.items) ∷ []) }
+        ensures unnoted { OnErr result (self.new.reads ≡ self.old.reads) }
         ensures fits { IfOk result (λ v. length v.items ≤ FILE_LIMIT) }
         ensures failed { result ≡ Err ReadAnswer.Failed → Rose self.old.faults self.new.faults }
         ensures missed { result ≡ Err ReadAnswer.Absent → Rose self.old.misses self.new.misses }
@@ -99,9 +107,9 @@ impl Shelf for MemShelf {
         ensures faults_last { self.old.faults ≡ 2 ^ 64 - 1 → self.new.faults ≡ 2 ^ 64 - 1 }
         ensures misses_last { self.old.misses ≡ 2 ^ 64 - 1 → self.new.misses ≡ 2 ^ 64 - 1 }
 
-        // The answer and what is left of the shelf, exactly.
+        // The answer and what is left of the shelf, exactly. Where memory runs out, the call gave nothing and is counted.
         ensures answer { ReadGives (read_of self.old name.now) result }
-        ensures after { self.new ≡ after_read self.old (read_of self.old name.now) }
+        ensures after { self.new ≡ after_read self.old name.now result }
     {
         self.calls = self.calls.saturating_add(1);
         if self.failing.contains(&self.calls) {
@@ -109,8 +117,12 @@ impl Shelf for MemShelf {
             return Err(ReadAnswer::Failed);
         }
         let answer = copy_file(alloc, self.files.as_slice(), name);
-        if matches!(answer, Err(ReadAnswer::Absent | ReadAnswer::TooLong)) {
-            self.misses = self.misses.saturating_add(1);
+        match &answer {
+            Ok(bytes) => self.log.note(name.as_bytes(), bytes.as_slice()),
+            Err(ReadAnswer::Absent | ReadAnswer::TooLong) => {
+                self.misses = self.misses.saturating_add(1);
+            }
+            Err(_) => {}
         }
         answer
     }

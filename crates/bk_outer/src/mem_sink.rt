@@ -1,4 +1,4 @@
-ghost use Rattle.std.specs.Prelude.{◌≡◌, ◌≤◌, ◌<◌, ◌-◌, ◌^◌, Some, [], ◌++◌, length, take, IfOk, OnErr};
+ghost use Rattle.std.specs.Prelude.{◌≡◌, ◌≤◌, ◌<◌, ◌-◌, ◌^◌, [], ◌++◌, length, take, IfOk, OnErr};
 ghost use Rattle.bk_outer.specs.Counts.{Rose};
 
 use crate::sink::{Sink, WriteAnswer};
@@ -55,7 +55,7 @@ impl MemSink {
 impl Sink for MemSink {
     ghost use Rattle.bk_outer.specs.Sink.{write_of, after_write, WriteGives};
 
-    ghost taken = { λ s. Some s.bytes };
+    ghost taken = { λ s. s.bytes };
 
     ghost faults = { λ s. s.faults };
 

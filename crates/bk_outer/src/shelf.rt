@@ -1,5 +1,6 @@
-ghost use Rattle.std.specs.Prelude.{◌≡◌, ◌≤◌, ◌<◌, ◌-◌, ◌^◌, ℕ, List, Option, Some, None, length, IfOk, IfSome, IsSomeAnd};
+ghost use Rattle.std.specs.Prelude.{◌≡◌, ◌≤◌, ◌<◌, ◌-◌, ◌^◌, ℕ, List, [], ◌∷◌, ◌++◌, Option, Some, None, length, IfOk, OnErr, IfSome, IsSomeAnd};
 ghost use Rattle.bk_outer.specs.Counts.{Rose};
+ghost use Rattle.bk_outer.specs.Reads.{Reads};
 
 use std::alloc::Global;
 
@@ -24,6 +25,9 @@ pub trait Shelf {
     /// What it has under each name, where it tells.
     ghost files: { Self → Option (List ℕ → Option (List ℕ)) };
 
+    /// What its reads gave: the name and the bytes of each that answered Ok, in order.
+    ghost reads: { Self → Reads };
+
     /// How many reads failed, up to the last value of a u64.
     ghost faults: { Self → ℕ };
 
@@ -33,6 +37,8 @@ pub trait Shelf {
     /// The bytes of the file with this name, at most `FILE_LIMIT` of them.
     fn read(&mut self, alloc: Global, name: &str) -> Result<Vec<u8>, ReadAnswer>
         ensures bytes { IfOk result (λ v. IfSome (files self.old) (λ at. at name.now ≡ Some v.items)) }
+        ensures noted { IfOk result (λ v. reads self.new ≡ reads self.old ++ (name.now, v.items) ∷ []) }
+        ensures unnoted { OnErr result (reads self.new ≡ reads self.old) }
         ensures fits { IfOk result (λ v. length v.items ≤ FILE_LIMIT) }
 
         // When each error comes. Memory may run out at any time.

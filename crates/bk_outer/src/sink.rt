@@ -1,6 +1,5 @@
-ghost use Rattle.std.specs.Prelude.{◌≡◌, ◌≤◌, ◌<◌, ◌-◌, ◌^◌, ℕ, List, [], Option, length, take, IfOk, IfErr, OnOk, OnErr};
+ghost use Rattle.std.specs.Prelude.{◌≡◌, ◌≤◌, ◌<◌, ◌-◌, ◌^◌, ℕ, List, [], ◌++◌, length, take, IfOk, IfErr, OnOk, OnErr};
 ghost use Rattle.bk_outer.specs.Counts.{Rose};
-ghost use Rattle.bk_outer.specs.Sink.{appended};
 
 /// Why a write took no bytes.
 #[derive(Clone, Copy, Debug, PartialEq, Eq)]
@@ -13,8 +12,8 @@ pub enum WriteAnswer {
 
 /// What output is written to.
 pub trait Sink {
-    /// The bytes that it has taken so far, where it tells.
-    ghost taken: { Self → Option (List ℕ) };
+    /// The bytes that its writes have taken, in order.
+    ghost taken: { Self → List ℕ };
 
     /// How many writes failed, up to the last value of a u64.
     ghost faults: { Self → ℕ };
@@ -24,7 +23,7 @@ pub trait Sink {
         requires { 0 < length piece.now }
         ensures some { IfOk result (λ n. 1 ≤ n) }
         ensures bound { IfOk result (λ n. n ≤ length piece.now) }
-        ensures takes { IfOk result (λ n. taken self.new ≡ appended (taken self.old) (take n piece.now)) }
+        ensures takes { IfOk result (λ n. taken self.new ≡ taken self.old ++ take n piece.now) }
         ensures takes_nothing { OnErr result (taken self.new ≡ taken self.old) }
         ensures failed { result ≡ Err WriteAnswer.Failed → Rose (faults self.old) (faults self.new) }
         ensures faults_kept { faults self.old ≤ faults self.new }
@@ -42,9 +41,9 @@ pub struct Unwritten {
 
 /// Hands the whole text to the sink: at first all of it, and after each Ok the rest. An empty text makes no write.
 pub fn write_all<K: Sink>(sink: &mut K, text: &[u8]) -> Result<(), Unwritten>
-    ensures ok { OnOk result (K.taken sink.new ≡ appended (K.taken sink.old) text.now) }
+    ensures ok { OnOk result (K.taken sink.new ≡ K.taken sink.old ++ text.now) }
     ensures part { IfErr result (λ u. u.written < length text.now) }
-    ensures err { IfErr result (λ u. K.taken sink.new ≡ appended (K.taken sink.old) (take u.written text.now)) }
+    ensures err { IfErr result (λ u. K.taken sink.new ≡ K.taken sink.old ++ take u.written text.now) }
     ensures failed { IfErr result (λ u. u.cause ≡ WriteAnswer.Failed → Rose (K.faults sink.old) (K.faults sink.new)) }
     ensures faults_kept { K.faults sink.old ≤ K.faults sink.new }
     ensures faults_last { K.faults sink.old ≡ 2 ^ 64 - 1 → K.faults sink.new ≡ 2 ^ 64 - 1 }

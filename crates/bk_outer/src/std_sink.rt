@@ -1,59 +1,85 @@
-ghost use Rattle.std.specs.Prelude.{◌≡◌, ◌≢◌, ◌≤◌, ◌<◌, ◌-◌, ◌^◌, None, length, take, IfOk, OnOk, OnErr};
+ghost use Rattle.std.specs.Prelude.{◌≡◌, ◌≢◌, ◌≤◌, ◌<◌, ◌-◌, ◌^◌, [], ◌++◌, length, take, IfOk, OnOk, OnErr};
 ghost use Rattle.bk_outer.specs.Counts.{Rose, one_more};
-ghost use Rattle.bk_outer.specs.Sink.{appended};
 
+use crate::logs::WriteLog;
 use crate::sink::{Sink, WriteAnswer};
+use std::io::{self, ErrorKind};
 use std::marker::Model;
 
-/// The standard output. Contracts see how many writes failed. It tells nothing of the bytes that it took.
+/// A write that a signal interrupts is tried again, so many times in all.
+const TRIES: u32 = 1_000_000;
+
+/// The standard output. It tells the bytes that its writes have taken.
 #[derive(Drop)]
 pub struct StdSink<'a, R> {
     rt: &'a R,
+    log: WriteLog,
     faults: u64,
 }
 
 impl<'a, R> Model for StdSink<'a, R> {
-    ghost use Rattle.std.specs.Prelude.{ℕ};
+    ghost use Rattle.bk_outer.specs.Sink.{SystemSink};
 
-    ghost Value = { ℕ };
+    ghost Value = { SystemSink };
 
-    ghost view = { λ s. s.faults };
+    ghost view = { λ s. record { taken = s.log.bytes; faults = s.faults } };
 }
 
 impl<'a, R: Print> StdSink<'a, R> {
-    /// The standard output of this runtime, with no failure so far.
+    ghost use Rattle.bk_outer.specs.Sink.{SystemSink};
+
+    /// The standard output of this runtime, with no write so far.
     pub fn make(rt: &'a R) -> StdSink<'a, R>
-        ensures { result ≡ 0 }
+        ensures { result ≡ record { taken = []; faults = 0 } }
     {
-        StdSink { rt, faults: 0 }
+        StdSink {
+            rt,
+            log: WriteLog::new(),
+            faults: 0,
+        }
     }
 }
 
+/// One write of the first bytes of the piece, which is tried again where a signal interrupts it.
+fn write_once<R: Print>(rt: &R, piece: &[u8]) -> io::Result<usize>
+    ensures { IfOk result (λ n. n ≤ length piece.now) }
+{
+    for _ in 1..TRIES {
+        match rt.write_some(piece) {
+            Err(e) if e.kind() == ErrorKind::Interrupted => {}
+            answer => return answer,
+        }
+    }
+    rt.write_some(piece)
+}
+
 impl<'a, R: Print> Sink for StdSink<'a, R> {
-    ghost taken = { λ _. None };
+    ghost taken = { λ s. s.taken };
 
-    ghost faults = { λ s. s };
+    ghost faults = { λ s. s.faults };
 
-    /// One write to the standard output. One that takes 0 bytes counts as failed.
+    /// One write to the standard output. One that takes 0 bytes counts as failed, and so does one that a signal interrupts each of
+    /// 1,000,000 times that it is tried.
     fn write(&mut self, piece: &[u8]) -> Result<usize, WriteAnswer>
         requires { 0 < length piece.now }
         ensures some { IfOk result (λ n. 1 ≤ n) }
         ensures bound { IfOk result (λ n. n ≤ length piece.now) }
-        ensures takes { IfOk result (λ n. ⟦<StdSink<'a, R> as Sink>⟧.taken self.new
-            ≡ appended (⟦<StdSink<'a, R> as Sink>⟧.taken self.old) (take n piece.now)) }
-        ensures takes_nothing { OnErr result (⟦<StdSink<'a, R> as Sink>⟧.taken self.new
-            ≡ ⟦<StdSink<'a, R> as Sink>⟧.taken self.old) }
-        ensures failed { result ≡ Err WriteAnswer.Failed → Rose self.old self.new }
-        ensures faults_kept { self.old ≤ self.new }
-        ensures faults_last { self.old ≡ 2 ^ 64 - 1 → self.new ≡ 2 ^ 64 - 1 }
+        ensures takes { IfOk result (λ n. self.new.taken ≡ self.old.taken ++ take n piece.now) }
+        ensures takes_nothing { OnErr result (self.new.taken ≡ self.old.taken) }
+        ensures failed { result ≡ Err WriteAnswer.Failed → Rose self.old.faults self.new.faults }
+        ensures faults_kept { self.old.faults ≤ self.new.faults }
+        ensures faults_last { self.old.faults ≡ 2 ^ 64 - 1 → self.new.faults ≡ 2 ^ 64 - 1 }
 
         // It needs no memory, and counts exactly.
         ensures not_memory { result ≢ Err WriteAnswer.Memory }
-        ensures ok { OnOk result (self.new ≡ self.old) }
-        ensures err { OnErr result (self.new ≡ one_more self.old) }
+        ensures ok { OnOk result (self.new.faults ≡ self.old.faults) }
+        ensures err { OnErr result (self.new.faults ≡ one_more self.old.faults) }
     {
-        match self.rt.write_some(piece) {
-            Ok(count) if count > 0 => Ok(count),
+        match write_once(self.rt, piece) {
+            Ok(count) if count > 0 => {
+                self.log.note(&piece[..count]);
+                Ok(count)
+            }
             _ => {
                 self.faults = self.faults.saturating_add(1);
                 Err(WriteAnswer::Failed)

@@ -3,7 +3,7 @@ use Rattle.std.specs.Prelude.{◌≡◌, ◌≤◌, ◌↔◌, List, Bool, lengt
 use Rattle.bk_system.specs.declared.event.Event.{Event}
 use Rattle.bk_system.specs.Runs.{run, IsTight, IsInOrder, IsComplete}
 use Rattle.bk_run.specs.declared.serial_runs.SerialFault.{SerialFault}
-use Rattle.bk_run.specs.declared.serial_runs.SerialFault.TheVariants.{Spent, Memory}
+use Rattle.bk_run.specs.declared.serial_runs.SerialFault.TheVariants.{Spent, Unreported, Memory}
 use Rattle.bk_run.specs.Jobs.{Job}
 use Rattle.bk_run.specs.Greedy.{IsGreedy, IsEnd, least_enabled}
 
@@ -30,4 +30,5 @@ pub record IsSpent (job : Job) (events : List Event) (complete : Bool) : Type 0 
 -- what a fault of a run says
 abbrev pub IsFault : Job → SerialFault → Type 0
 IsFault job (Spent end) = IsSpent job end.events.items end.complete
+IsFault job (Unreported end) = IsEnded job end.events.items end.complete
 IsFault job Memory = Unit {0}

@@ -54,6 +54,9 @@ pub struct LoggedRun {
 pub enum SerialFault {
     /// As many events as the budget were made, and one more is enabled.
     Spent(RunEnd),
+    /// The run has ended, and memory ran out in its report.
+    Unreported(RunEnd),
+    /// Memory ran out before the run had ended.
     Memory,
 }
 
@@ -244,12 +247,11 @@ fn run_with_texts<F: Fn(&[WayView]) -> u8 + Copy + Send>(
             log: log.into_bytes(),
             report,
         }),
-        Err(_) => Err(SerialFault::Memory),
+        Err(_) => Err(SerialFault::Unreported(end)),
     }
 }
 
-/// The same as `serial`, with the report of the run's events. Each event is made once. `SerialFault::Memory` is also answered where
-/// the run has ended and memory runs out in its report.
+/// The same as `serial`, with the report of the run's events. Each event is made once.
 pub fn serial_report<F: Fn(&[WayView]) -> u8 + Copy + Send>(
     alloc: Global,
     image: &Image,
