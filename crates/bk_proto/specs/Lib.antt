@@ -1,1 +1,2 @@
+pub mod Mutants
 pub mod Sources

@@ -1,4 +1,5 @@
-//! The four protocols that come with the product, as texts of microcode (`docs/ASSEMBLY.md`).
+//! The four protocols that come with the product, as texts of microcode (`docs/ASSEMBLY.md`), and
+//! programs that differ from them in one word.
 #![tactic(auto)]
 
 ghost use Rattle.std.specs.Prelude.{◌≡◌};
@@ -9,6 +10,9 @@ mod ei;
 mod mesi;
 mod moesif;
 mod msi;
+mod refusals;
+
+pub use refusals::{Mutant, mutants};
 
 /// The source of the protocol of a name: `ei`, `msi`, `mesi` or `moesif`. None for any other name.
 pub fn source(name: &str) -> Option<&'static [u8]>
