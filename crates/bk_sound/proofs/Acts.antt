@@ -18,9 +18,10 @@ use Rattle.bk_exact.specs.After.{told_after}
 use Rattle.bk_exact.specs.Runs.{told_by, told_next}
 use Rattle.bk_exact.specs.Ties.{told_world}
 use Rattle.bk_exact.proofs.Steps.{no-form, instructions-act}
-use Rattle.bk_sound.specs.Actions.{told_from, world_after, IsAction}
+use Rattle.bk_bound.specs.Runs.{told_from}
+use Rattle.bk_sound.specs.Actions.{world_after, IsAction}
 use Rattle.bk_check.specs.Accepted.{IsMade}
-use Rattle.bk_sound.proofs.Follows.{Follows, reached, is-met}
+use Rattle.bk_bound.proofs.Follows.{Follows, reached, is-met}
 
 -- RUNS OF A LIST AND ONE EVENT MORE
 

@@ -1,6 +1,7 @@
 -- An accepted image has what a certified one has.
 use Rattle.bk_image.specs.Images.{Parts}
 use Rattle.bk_check.specs.Accepted.{Accepted, IsMade}
+use Rattle.bk_bound.proofs.TraceBounds.{bounded}
 use Rattle.bk_sound.specs.Certified.{IsCertified}
 use Rattle.bk_sound.proofs.Acts.{acts}
 use Rattle.bk_sound.proofs.Images.{sound}
@@ -10,4 +11,5 @@ certified image made accepted = record {
   accepted = accepted;
   sound = λ k es profile lawful. sound k image profile made accepted es lawful;
   actions = λ k es choice profile lawful. acts k image profile made accepted es lawful choice;
+  bounded = bounded image made accepted;
 }

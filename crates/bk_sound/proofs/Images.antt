@@ -19,8 +19,8 @@ use Rattle.bk_coherent.proofs.Stuck.{stuck-rested, engine-runs}
 use Rattle.bk_coherent.proofs.Tied.{coherent, takes}
 use Rattle.bk_flows.specs.Flows.{IsNoHalt}
 use Rattle.bk_sound.specs.Sound.{IsSoundState}
-use Rattle.bk_sound.specs.Actions.{told_from}
-use Rattle.bk_sound.proofs.Follows.{Follows, reached, is-met, runs-here}
+use Rattle.bk_bound.specs.Runs.{told_from}
+use Rattle.bk_bound.proofs.Follows.{Follows, reached, is-met, runs-here}
 
 no-halt : (o : Option Stop) (reason : Halt) → IsNoHalt o → o ≡ Some (Halts reason) → ⊥
 no-halt None r h e = cc

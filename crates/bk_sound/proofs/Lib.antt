@@ -1,4 +1,3 @@
-mod Follows
 mod Images
 mod Acts
 mod Certifies

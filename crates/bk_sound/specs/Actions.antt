@@ -6,20 +6,14 @@ use Rattle.bk_engine.specs.declared.parts.Choice.{Choice}
 use Rattle.bk_system.specs.declared.event.Event.{Event}
 use Rattle.bk_system.specs.declared.event.Event.TheVariants.{Engine}
 use Rattle.bk_system.specs.Lawful.{AreLawful}
-use Rattle.bk_system.specs.State.{State, opening}
-use Rattle.bk_system.specs.Runs.{is_enabled, after, run}
+use Rattle.bk_system.specs.State.{opening}
+use Rattle.bk_system.specs.Runs.{is_enabled, run}
 use Rattle.bk_machine.specs.Actions.{Action, Permitted, action_after}
 use Rattle.bk_machine.specs.World.{World}
-use Rattle.bk_exact.specs.Told.{Told, untold}
+use Rattle.bk_exact.specs.Told.{untold}
 use Rattle.bk_exact.specs.After.{action_at}
-use Rattle.bk_exact.specs.Runs.{told_next}
 use Rattle.bk_exact.specs.Ties.{told_world}
-
--- The engine's transaction is no part of the system's state. A run tells it: there is none at the opening, and each instruction
--- changes it as its action does.
-abbrev pub told_from : Shape → List Form → State → Told → List Event → Told
-told_from k program s told [] = told
-told_from k program s told (event ∷ events) = told_from k program (after k program s event) (told_next k program s told event) events
+use Rattle.bk_bound.specs.Runs.{told_from}
 
 -- the abstract protocol's state after a list of events
 abbrev pub world_after : Shape → List Form → List Event → World

@@ -10,3 +10,6 @@ returns-in-Ok-clause-sound c = (certified c.args.image (c.in-Ok.ensures.made) (c
 
 pub returns-in-Ok-clause-actions : goal.returns-in-Ok-clause-actions
 returns-in-Ok-clause-actions c = (certified c.args.image (c.in-Ok.ensures.made) (c.in-Ok.ensures.ok.0 refl)).actions
+
+pub returns-in-Ok-clause-bounded : goal.returns-in-Ok-clause-bounded
+returns-in-Ok-clause-bounded c = (certified c.args.image (c.in-Ok.ensures.made) (c.in-Ok.ensures.ok.0 refl)).bounded

@@ -39,7 +39,7 @@ use Rattle.bk_exact.proofs.Steps.{core-is, no-form, events-tie, opens-tied}
 use Rattle.bk_flows.specs.Flows.{edge_of, IsNoHalt}
 use Rattle.bk_flows.proofs.ByForm.{mask-follows}
 use Rattle.bk_flows.proofs.Halts.{never-halts}
-use Rattle.bk_sound.specs.Actions.{told_from}
+use Rattle.bk_bound.specs.Runs.{told_from}
 
 -- A state is tied to what is told of its run, and its engine stands at a place of the image whose sets the exact mask fits.
 pub record Follows (image : Parts) (k : Shape) (s : State) (told : Told) : Type 0 where
@@ -47,7 +47,7 @@ pub record Follows (image : Parts) (k : Shape) (s : State) (told : Told) : Type 
   pub stands : Stands image s.engine.core.place (exact k s.engine told)
 
 -- a branch that is taken has a target
-has-target : (k : Shape) (engine : EngineState) (f : Form) → is_branch_taken k engine f ≡ true → flow.target f ≡ Some (target f)
+pub has-target : (k : Shape) (engine : EngineState) (f : Form) → is_branch_taken k engine f ≡ true → flow.target f ≡ Some (target f)
 has-target k engine (forms.Bi to) e = refl
 has-target k engine (forms.Beq a b to) e = refl
 has-target k engine (forms.Bne a b to) e = refl
@@ -57,12 +57,12 @@ has-target k engine (forms.Bk a b to) e = refl
 has-target k engine f e = absurd (cc)
 
 -- an event of a cache or the memory leaves the engine as it is
-taken-same : (s later : State) (c : ℕ) (o : Option Transition) → later.engine ≡ s.engine
+pub taken-same : (s later : State) (c : ℕ) (o : Option Transition) → later.engine ≡ s.engine
     → (state_after_row s (cache_row later c o)).engine ≡ s.engine
 taken-same s later c None e = refl
 taken-same s later c (Some t) e = e
 
-accessed-same : (s : State) (o : Option Row) → (state_after_row s (access_row s o)).engine ≡ s.engine
+pub accessed-same : (s : State) (o : Option Row) → (state_after_row s (access_row s o)).engine ≡ s.engine
 accessed-same s None = refl
 accessed-same s (Some m) = refl
 
@@ -102,10 +102,10 @@ module _ (k : Shape) (image : Parts) (profile : InProfile k) (made : IsMade imag
       abbrev next : Told
       next = told_after k s.engine.core (told_world k s told) f told
 
-      leads : Leads (edge_of k s.engine f e) (exact k later.engine next)
+      pub leads : Leads (edge_of k s.engine f e) (exact k later.engine next)
       leads = mask-follows k image.instrs s told choice f profile (made.forms place f here) follows.tied here can (is-met f here)
 
-      place-is : later.engine.core.place ≡ next_place k s.engine f
+      pub place-is : later.engine.core.place ≡ next_place k s.engine f
       place-is = ap (λ (core : Core). core.place) (core-is k image.instrs s told choice profile follows.tied can f here)
 
       runs-to : Tied k later next → Stands image later.engine.core.place (exact k later.engine next)
@@ -159,7 +159,7 @@ module _ (k : Shape) (image : Parts) (profile : InProfile k) (made : IsMade imag
     event-at events.Memory t = stays (after k image.instrs s events.Memory) (accessed-same s (first s.memout))
     event-at (events.Engine choice) t = engine-at choice t
 
-    event-follows : (event : Event) → IsLawful event
+    pub event-follows : (event : Event) → IsLawful event
         → Follows image k (after k image.instrs s event) (told_next k image.instrs s told event)
     event-follows event l =
         let tied = events-tie k image.instrs s told event profile made.forms l is-met follows.tied in
@@ -181,7 +181,10 @@ module _ (k : Shape) (image : Parts) (profile : InProfile k) (made : IsMade imag
   run-follows s told (event ∷ es) f l =
       run-follows (after k image.instrs s event) (told_next k image.instrs s told event) es (event-follows s told f event l.0) l.1
 
+  pub opens-follows : Follows image k (opening k) untold
+  opens-follows = record { tied = opens-tied k profile; stands = carries.start made.some }
+
   -- in each state of a run
   pub reached : (es : List Event) → AreLawful es
       → Follows image k (run k image.instrs es) (told_from k image.instrs (opening k) untold es)
-  reached es l = run-follows (opening k) untold es (record { tied = opens-tied k profile; stands = carries.start made.some }) l
+  reached es l = run-follows (opening k) untold es opens-follows l
