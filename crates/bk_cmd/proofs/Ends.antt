@@ -1,5 +1,5 @@
 -- How a replay ends: what its run says, that it stayed coherent, and what is due of it.
-use Rattle.std.proofs.Common.{◌≡◌, ℕ, Bool, true, false, List, ◌++◌, Result, Ok, Err, IfOk, IfErr, inl, inr, sym, ap, subst}
+use Rattle.std.proofs.Common.{◌≡◌, ℕ, Bool, true, List, ◌++◌, Result, Ok, Err, IfOk, IfErr, sym, ap, subst}
 use Rattle.std.specs.List.{All}
 use Rattle.bk_base.specs.Places.{InProfile}
 use Rattle.bk_image.specs.Images as images
@@ -20,41 +20,50 @@ use Rattle.bk_system.specs.declared.event.Event.{Event}
 use Rattle.bk_run.specs.Report.{IsReport}
 use Rattle.bk_cmd.specs.declared.outcome.Outcome.{Outcome}
 use Rattle.bk_cmd.specs.declared.words.Output.{Output}
-use Rattle.bk_cmd.specs.Replays.{budget_for, job_for, RunEnds, IsRunFault, AreEvents, log_due, IsDue, Reported, ReportedPart}
+use Rattle.bk_cmd.specs.Replays.{budget_for, job_for, RunEnds, IsRunFault, log_due, IsDue, Reported, ReportedPart}
 use Rattle.bk_cmd.specs.Writes.{Wrote, WrotePart}
-
-events-of : (policy : List WayView → ℕ → Type 0) (image : images.Parts) (trace : traces.Parts) (events : List Event) (complete : Bool)
-    → RunEnds policy image trace events complete → AreEvents policy image trace events
-events-of policy image trace events true h = inl h
-events-of policy image trace events false h = inr (inl h)
-
-pub fault-of : (policy : List WayView → ℕ → Type 0) (image : images.Parts) (trace : traces.Parts) (fault : SerialFault)
-    → IsFault (job_for policy image trace) fault → IsRunFault policy image trace fault
-fault-of policy image trace (Spent end) h = inr (end.complete, h)
-fault-of policy image trace (Unreported end) h = events-of policy image trace end.events.items end.complete h
-fault-of policy image trace Memory h = tt
+use Rattle.bk_cmd.proofs.Finishes.{ended-complete}
 
 -- What a run's call says of an image that is handed to it (`given`, which is the replay's) is so of the replay's image.
 module _ (policy : List WayView → ℕ → Type 0) (given image : images.Parts) (trace : traces.Parts) (budget : ℕ)
     (is : given ≡ image)
     (same : budget ≡ budget_for image trace)
   where
-    pub fault-told : (result : Result LoggedRun SerialFault) → IfErr result (IsFault (job_of policy given.instrs trace budget))
-        → IfErr result (IsRunFault policy image trace)
-    fault-told (Ok run) h = tt
-    fault-told (Err fault) h =
-        fault-of policy image trace fault
-        (subst (λ (p : images.Parts). IsFault (job_of policy p.instrs trace (budget_for image trace)) fault) is
-        (subst (λ (b : ℕ). IsFault (job_of policy given.instrs trace b) fault) same h))
+    fault-here : (fault : SerialFault) → IsFault (job_of policy given.instrs trace budget) fault
+        → IsFault (job_for policy image trace) fault
+    fault-here fault h = subst (λ (p : images.Parts). IsFault (job_of policy p.instrs trace (budget_for image trace)) fault) is
+        (subst (λ (b : ℕ). IsFault (job_of policy given.instrs trace b) fault) same h)
 
-    pub end-told : (result : Result LoggedRun SerialFault)
-        → IfOk result (λ run. IsEnded (job_of policy given.instrs trace budget) run.end.events.items run.end.complete)
-        → IfOk result (λ run. RunEnds policy image trace run.end.events.items run.end.complete)
-    end-told (Ok run) h =
-        subst (λ (p : images.Parts). IsEnded (job_of policy p.instrs trace (budget_for image trace)) run.end.events.items
-        run.end.complete) is
-        (subst (λ (b : ℕ). IsEnded (job_of policy given.instrs trace b) run.end.events.items run.end.complete) same h)
-    end-told (Err fault) h = tt
+    ended-here : (events : List Event) (complete : Bool) → IsEnded (job_of policy given.instrs trace budget) events complete
+        → RunEnds policy image trace events complete
+    ended-here events complete h =
+        subst (λ (p : images.Parts). IsEnded (job_of policy p.instrs trace (budget_for image trace)) events complete) is
+        (subst (λ (b : ℕ). IsEnded (job_of policy given.instrs trace b) events complete) same h)
+
+    -- the image is sound, so a run that came to its end is complete
+    module _ (sound : IsSound image.instrs) (profile : InProfile trace.config)
+        (lines : All (λ line. IsLine trace.config.caches line) trace.lines)
+      where
+        whole : (events : List Event) (complete : Bool) → RunEnds policy image trace events complete
+            → RunEnds policy image trace events true
+        whole events complete h = subst (RunEnds policy image trace events)
+            (ended-complete policy image trace (budget_for image trace) events complete sound profile lines h) h
+
+        fault-of : (fault : SerialFault) → IsFault (job_for policy image trace) fault → IsRunFault policy image trace fault
+        fault-of (Spent end) h = (end.complete, h)
+        fault-of (Unreported end) h = whole end.events.items end.complete h
+        fault-of Memory h = tt
+
+        pub fault-told : (result : Result LoggedRun SerialFault) → IfErr result (IsFault (job_of policy given.instrs trace budget))
+            → IfErr result (IsRunFault policy image trace)
+        fault-told (Ok run) h = tt
+        fault-told (Err fault) h = fault-of fault (fault-here fault h)
+
+        pub end-told : (result : Result LoggedRun SerialFault)
+            → IfOk result (λ run. IsEnded (job_of policy given.instrs trace budget) run.end.events.items run.end.complete)
+            → IfOk result (λ run. RunEnds policy image trace run.end.events.items true)
+        end-told (Ok run) h = whole run.end.events.items run.end.complete (ended-here run.end.events.items run.end.complete h)
+        end-told (Err fault) h = tt
 
     pub report-told : (result : Result LoggedRun SerialFault)
         → IfOk result (λ run. IsReport trace.config given.instrs trace.lines run.end.events.items run.report.items)
@@ -74,7 +83,7 @@ module _ (policy : List WayView → ℕ → Type 0) (given image : images.Parts)
 pub run-coherent : (policy : List WayView → ℕ → Type 0) (image : images.Parts) (trace : traces.Parts)
     (result : Result LoggedRun SerialFault)
     → IsSound image.instrs → InProfile trace.config → All (λ line. IsLine trace.config.caches line) trace.lines
-    → IfOk result (λ run. RunEnds policy image trace run.end.events.items run.end.complete)
+    → IfOk result (λ run. RunEnds policy image trace run.end.events.items true)
     → IfOk result (λ run. StaysCoherent trace.config image.instrs run.end.events.items)
 run-coherent policy image trace (Ok run) sound profile lines h =
     stays-coherent trace.config image.instrs run.end.events.items sound profile

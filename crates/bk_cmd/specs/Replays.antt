@@ -1,5 +1,5 @@
 -- How a replay ends, once its files are read. The policy is the relation between the views of a set and the way of a victim.
-use Rattle.std.specs.Prelude.{◌≡◌, ℕ, ◌⊎◌, List, [], ◌++◌, length, Bool, true, false}
+use Rattle.std.specs.Prelude.{◌≡◌, ℕ, ◌⊎◌, List, [], ◌++◌, length, Bool, true}
 use Rattle.bk_outer.specs.Reads.{Reads}
 use Rattle.bk_image.specs.Images as images
 use Rattle.bk_check.specs.Accepted.{Accepted}
@@ -45,23 +45,18 @@ job_for policy image trace = job_of policy image.instrs trace (budget_for image 
 abbrev pub RunEnds : (List WayView → ℕ → Type 0) → images.Parts → traces.Parts → List Event → Bool → Type 0
 RunEnds policy image trace events complete = IsEnded (job_for policy image trace) events complete
 
--- the greedy run used its budget up
-abbrev pub RunIsSpent : (List WayView → ℕ → Type 0) → images.Parts → traces.Parts → List Event → Bool → Type 0
-RunIsSpent policy image trace events complete = IsSpent (job_for policy image trace) events complete
+-- the greedy run used its budget up, and one more event is enabled
+abbrev pub RunIsSpent : (List WayView → ℕ → Type 0) → images.Parts → traces.Parts → List Event → Type 0
+RunIsSpent policy image trace events = (complete : Bool) × IsSpent (job_for policy image trace) events complete
 
--- the run ended without doing all of the trace, or used its budget up
-abbrev pub EndsShort : (List WayView → ℕ → Type 0) → images.Parts → traces.Parts → List Event → Type 0
-EndsShort policy image trace events =
-    RunEnds policy image trace events false ⊎ ((complete : Bool) × RunIsSpent policy image trace events complete)
-
--- these are all events of the run
+-- these are all events of the run, which came to its end, or used its budget up
 abbrev pub AreEvents : (List WayView → ℕ → Type 0) → images.Parts → traces.Parts → List Event → Type 0
-AreEvents policy image trace events = RunEnds policy image trace events true ⊎ EndsShort policy image trace events
+AreEvents policy image trace events = RunEnds policy image trace events true ⊎ RunIsSpent policy image trace events
 
 -- what a fault of a run says
 abbrev pub IsRunFault : (List WayView → ℕ → Type 0) → images.Parts → traces.Parts → SerialFault → Type 0
-IsRunFault policy image trace (Spent end) = EndsShort policy image trace end.events.items
-IsRunFault policy image trace (Unreported end) = AreEvents policy image trace end.events.items
+IsRunFault policy image trace (Spent end) = RunIsSpent policy image trace end.events.items
+IsRunFault policy image trace (Unreported end) = RunEnds policy image trace end.events.items true
 IsRunFault policy image trace Memory = Unit {0}
 
 -- the log of a run, where it is asked for

@@ -9,7 +9,7 @@ ghost use Rattle.bk_cmd.specs.Outcomes.{LeavesRest, is_after_run, is_after_write
 ghost use Rattle.bk_run.specs.Jobs.{job_of};
 ghost use Rattle.bk_run.specs.Serial.{IsEnded, IsFault};
 ghost use Rattle.bk_run.specs.Report.{IsReport};
-ghost use Rattle.bk_cmd.specs.Replays.{RunEnds, EndsShort, AreEvents, IsRunFault, IsDue, log_due, Reported, ReportedPart};
+ghost use Rattle.bk_cmd.specs.Replays.{RunEnds, RunIsSpent, AreEvents, IsRunFault, IsDue, log_due, Reported, ReportedPart};
 
 use crate::inputs::Inputs;
 use crate::outcome::{MEMORY, OK, Outcome, SPENT, Stop, WRITE_FAULT, ended, stopped};
@@ -85,7 +85,8 @@ fn run_within<F: Fn(&[WayView]) -> u8 + Copy + Send>(
     }
 }
 
-/// Runs the greedy schedule within the budget of the image and the trace, with what is due of the run.
+/// Runs the greedy schedule within the budget of the image and the trace, with what is due of the run. As the image is accepted, a run
+/// that comes to its end is complete.
 fn run<F: Fn(&[WayView]) -> u8 + Copy + Send>(
     alloc: Global,
     inputs: &Inputs,
@@ -93,7 +94,7 @@ fn run<F: Fn(&[WayView]) -> u8 + Copy + Send>(
 ) -> Result<LoggedRun, SerialFault>
     requires { IsPolicy F.Fn victim.now.pick }
     ensures ok { IfOk result (λ run.
-        RunEnds (FnReturnsAt F.Fn victim.now.pick) inputs.now.image inputs.now.trace run.end.events.items run.end.complete) }
+        RunEnds (FnReturnsAt F.Fn victim.now.pick) inputs.now.image inputs.now.trace run.end.events.items true) }
     ensures coherent { IfOk result (λ run. StaysCoherent inputs.now.trace.config inputs.now.image.instrs run.end.events.items) }
     ensures log { IfOk result (λ run.
         run.log.items ≡ log_due inputs.now.output inputs.now.image inputs.now.trace run.end.events.items) }
@@ -115,7 +116,7 @@ fn run<F: Fn(&[WayView]) -> u8 + Copy + Send>(
     )
 }
 
-/// Runs the greedy schedule, and writes what is due of a complete run.
+/// Runs the greedy schedule, and writes what is due of it, where the run came to its end.
 pub(crate) fn replay<K: Sink, F: Fn(&[WayView]) -> u8 + Copy + Send>(
     alloc: Global,
     inputs: &Inputs,
@@ -136,7 +137,7 @@ pub(crate) fn replay<K: Sink, F: Fn(&[WayView]) -> u8 + Copy + Send>(
     ensures memory_none { result.status ≡ MEMORY → result.written ≡ 0 →
         K.taken sink.new ≡ K.taken sink.old }
     ensures spent { result.status ≡ SPENT →
-        EndsShort (FnReturnsAt F.Fn victim.now.pick) inputs.now.image inputs.now.trace result.events.items }
+        RunIsSpent (FnReturnsAt F.Fn victim.now.pick) inputs.now.image inputs.now.trace result.events.items }
     ensures events { (result.events.items ≡ [])
         ⊎ AreEvents (FnReturnsAt F.Fn victim.now.pick) inputs.now.image inputs.now.trace result.events.items }
     ensures status { IsTrue (is_after_run result.status) }
@@ -145,13 +146,7 @@ pub(crate) fn replay<K: Sink, F: Fn(&[WayView]) -> u8 + Copy + Send>(
     ensures faults_kept { K.faults sink.old ≤ K.faults sink.new }
 {
     match run(alloc, inputs, victim) {
-        Ok(run) => {
-            if run.end.complete {
-                write_texts(inputs, victim, run, sink)
-            } else {
-                ended(SPENT, run.end.events, 0)
-            }
-        }
+        Ok(run) => write_texts(inputs, victim, run, sink),
         Err(SerialFault::Spent(end)) => ended(SPENT, end.events, 0),
         Err(SerialFault::Unreported(end)) => ended(MEMORY, end.events, 0),
         Err(SerialFault::Memory) => stopped(alloc, Stop::Memory),

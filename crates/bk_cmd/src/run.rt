@@ -46,7 +46,7 @@ use std::alloc::Global;
 /// - `READ_FAULT`: a file could not be read;
 /// - `WRITE_FAULT`: the sink failed, and took `written` bytes of what is due;
 /// - `TOO_LONG`: a file has too many bytes, an image or a text too many instructions, or a trace too many operations;
-/// - `SPENT`: the run ended and is not complete.
+/// - `SPENT`: the run used its budget up, and one more event is enabled.
 ///
 /// Each operation of a replay begins with the way that the victim policy answers for it. Only an image that is accepted is
 /// replayed, and its run is coherent at the opening and after each of its events (`docs/COHERENCE.md`).
@@ -83,7 +83,7 @@ pub fn run_plain<H: Shelf, K: Sink, F: Fn(&[WayView]) -> u8 + Copy + Send>(
         (K.taken sink.old) (K.taken sink.new)) }
     ensures memory_none { result.status ≡ MEMORY → result.written ≡ 0 → K.taken sink.new ≡ K.taken sink.old }
 
-    // The verdict on an image, and a run that is not complete.
+    // The verdict on an image, and a run that used its budget up.
     ensures refused { result.status ≡ REFUSED → OfCommand words.now (λ command.
         EndsRefused (seen H.files H.reads shelf.old shelf.new) command result) }
     ensures spent { result.status ≡ SPENT → OfCommand words.now (λ command.
