@@ -1,5 +1,5 @@
 -- How a replay ends: what its run says, that it stayed coherent, and what is due of it.
-use Rattle.std.proofs.Common.{◌≡◌, ℕ, Bool, true, List, ◌++◌, Result, Ok, Err, IfOk, IfErr, sym, ap, subst}
+use Rattle.std.proofs.Common.{◌≡◌, ℕ, Bool, List, ◌++◌, Result, Ok, Err, IfOk, IfErr, sym, ap, subst}
 use Rattle.std.specs.List.{All}
 use Rattle.bk_base.specs.Places.{InProfile}
 use Rattle.bk_image.specs.Images as images
@@ -14,6 +14,7 @@ use Rattle.bk_run.specs.Serial.{IsEnded, IsFault}
 use Rattle.bk_run.proofs.Lawful.{greedy_from-lawful}
 use Rattle.bk_system.specs.State.{opening}
 use Rattle.bk_coherent.specs.Coherent.{StaysCoherent}
+use Rattle.bk_bound.specs.Bound.{IsBounded}
 use Rattle.bk_sound.specs.Sound.{IsSound}
 use Rattle.bk_sound.proofs.Stays.{stays-coherent}
 use Rattle.bk_system.specs.declared.event.Event.{Event}
@@ -23,6 +24,7 @@ use Rattle.bk_cmd.specs.declared.words.Output.{Output}
 use Rattle.bk_cmd.specs.Replays.{budget_for, job_for, RunEnds, IsRunFault, log_due, IsDue, Reported, ReportedPart}
 use Rattle.bk_cmd.specs.Writes.{Wrote, WrotePart}
 use Rattle.bk_cmd.proofs.Finishes.{ended-complete}
+use Rattle.bk_cmd.proofs.Budgets.{never-spent}
 
 -- What a run's call says of an image that is handed to it (`given`, which is the replay's) is so of the replay's image.
 module _ (policy : List WayView → ℕ → Type 0) (given image : images.Parts) (trace : traces.Parts) (budget : ℕ)
@@ -35,22 +37,22 @@ module _ (policy : List WayView → ℕ → Type 0) (given image : images.Parts)
         (subst (λ (b : ℕ). IsFault (job_of policy given.instrs trace b) fault) same h)
 
     ended-here : (events : List Event) (complete : Bool) → IsEnded (job_of policy given.instrs trace budget) events complete
-        → RunEnds policy image trace events complete
+        → IsEnded (job_for policy image trace) events complete
     ended-here events complete h =
         subst (λ (p : images.Parts). IsEnded (job_of policy p.instrs trace (budget_for image trace)) events complete) is
         (subst (λ (b : ℕ). IsEnded (job_of policy given.instrs trace b) events complete) same h)
 
-    -- the image is sound, so a run that came to its end is complete
-    module _ (sound : IsSound image.instrs) (profile : InProfile trace.config)
+    -- the image is sound and bounded, so a run comes to its end within its budget, and is complete
+    module _ (sound : IsSound image.instrs) (bounded : IsBounded image.instrs) (profile : InProfile trace.config)
         (lines : All (λ line. IsLine trace.config.caches line) trace.lines)
       where
-        whole : (events : List Event) (complete : Bool) → RunEnds policy image trace events complete
-            → RunEnds policy image trace events true
-        whole events complete h = subst (RunEnds policy image trace events)
+        whole : (events : List Event) (complete : Bool) → IsEnded (job_for policy image trace) events complete
+            → RunEnds policy image trace events
+        whole events complete h = subst (IsEnded (job_for policy image trace) events)
             (ended-complete policy image trace (budget_for image trace) events complete sound profile lines h) h
 
         fault-of : (fault : SerialFault) → IsFault (job_for policy image trace) fault → IsRunFault policy image trace fault
-        fault-of (Spent end) h = (end.complete, h)
+        fault-of (Spent end) h = never-spent policy image trace bounded profile lines end.events.items end.complete h
         fault-of (Unreported end) h = whole end.events.items end.complete h
         fault-of Memory h = tt
 
@@ -61,7 +63,7 @@ module _ (policy : List WayView → ℕ → Type 0) (given image : images.Parts)
 
         pub end-told : (result : Result LoggedRun SerialFault)
             → IfOk result (λ run. IsEnded (job_of policy given.instrs trace budget) run.end.events.items run.end.complete)
-            → IfOk result (λ run. RunEnds policy image trace run.end.events.items true)
+            → IfOk result (λ run. RunEnds policy image trace run.end.events.items)
         end-told (Ok run) h = whole run.end.events.items run.end.complete (ended-here run.end.events.items run.end.complete h)
         end-told (Err fault) h = tt
 
@@ -83,7 +85,7 @@ module _ (policy : List WayView → ℕ → Type 0) (given image : images.Parts)
 pub run-coherent : (policy : List WayView → ℕ → Type 0) (image : images.Parts) (trace : traces.Parts)
     (result : Result LoggedRun SerialFault)
     → IsSound image.instrs → InProfile trace.config → All (λ line. IsLine trace.config.caches line) trace.lines
-    → IfOk result (λ run. RunEnds policy image trace run.end.events.items true)
+    → IfOk result (λ run. RunEnds policy image trace run.end.events.items)
     → IfOk result (λ run. StaysCoherent trace.config image.instrs run.end.events.items)
 run-coherent policy image trace (Ok run) sound profile lines h =
     stays-coherent trace.config image.instrs run.end.events.items sound profile
@@ -93,7 +95,7 @@ run-coherent policy image trace (Err fault) sound profile lines h = tt
 -- what is due of a run that was complete, where the sink took all of it and where it took a part
 module _ (policy : List WayView → ℕ → Type 0) (output : Output) (image : images.Parts) (trace : traces.Parts) (o : Outcome)
     (before after : List ℕ)
-    (es : List Event) (log report : List ℕ) (is : o.events.items ≡ es) (ended : RunEnds policy image trace es true)
+    (es : List Event) (log report : List ℕ) (is : o.events.items ≡ es) (ended : RunEnds policy image trace es)
     (coherent : StaysCoherent trace.config image.instrs es) (is_report : IsReport trace.config image.instrs trace.lines es report)
     (is_log : log ≡ log_due output image trace es) where
   due : IsDue output image trace o.events.items (log ++ report)
@@ -102,7 +104,7 @@ module _ (policy : List WayView → ℕ → Type 0) (output : Output) (image : i
 
   pub reported : Wrote (log ++ report) o before after → Reported policy output image trace o before after
   reported wrote = record {
-    ended = subst (λ (vs : List Event). RunEnds policy image trace vs true) (sym is) ended;
+    ended = subst (λ (vs : List Event). RunEnds policy image trace vs) (sym is) ended;
     coherent = subst (StaysCoherent trace.config image.instrs) (sym is) coherent;
     text = log ++ report;
     is_due = due;
@@ -111,7 +113,7 @@ module _ (policy : List WayView → ℕ → Type 0) (output : Output) (image : i
 
   pub reported-part : WrotePart (log ++ report) o before after → ReportedPart policy output image trace o before after
   reported-part wrote = record {
-    ended = subst (λ (vs : List Event). RunEnds policy image trace vs true) (sym is) ended;
+    ended = subst (λ (vs : List Event). RunEnds policy image trace vs) (sym is) ended;
     coherent = subst (StaysCoherent trace.config image.instrs) (sym is) coherent;
     text = log ++ report;
     is_due = due;

@@ -1,7 +1,7 @@
 -- A greedy run of an accepted image that has come to its end has done all of its trace: where nothing is enabled the system rests, and an
 -- idle cache with an operation left would be given it.
-use Rattle.std.proofs.Common.{◌≡◌, ℕ, ◌+◌, ◌<◌, ◌≤◌, List, [], Bool, true, false, Option, Some, None, refl, ap, sym, ◌∙◌, subst, inl, inr, length, length-append, slice_get, ◌++◌, arith}
-use Rattle.std.specs.Prelude.{◌&&◌, ◌==◌, if◌then◌else◌, is_none, is_some, nat_lt, nat_le, not, option_and_then, option_map}
+use Rattle.std.proofs.Common.{◌≡◌, ℕ, ◌+◌, ◌<◌, ◌≤◌, List, Bool, true, false, Option, Some, None, refl, ap, sym, ◌∙◌, subst, inl, inr, length, length-append, slice_get, arith}
+use Rattle.std.specs.Prelude.{◌&&◌, ◌==◌, if◌then◌else◌, is_none, is_some, nat_lt, not, option_and_then, option_map}
 use Rattle.std.specs.List.{All}
 use Rattle.std.proofs.lemmas.Bool.{and_left, and_right, and_parts, cases_eq, cases_lt, lt-ltb, le-ltb, ne_eqb}
 use Rattle.std.proofs.lemmas.Option.{slice_get_cases}
@@ -16,22 +16,22 @@ use Rattle.bk_trace.specs.Traces as traces
 use Rattle.bk_trace.specs.Traces.{operations_of, IsLine}
 use Rattle.bk_lce.specs.declared.line.InProgress.{InProgress}
 use Rattle.bk_lce.specs.declared.line.WayView.{WayView}
-use Rattle.bk_lce.specs.CacheTable.{Transition, issue, issue_row, if_idle}
+use Rattle.bk_lce.specs.CacheTable.{Transition, issue_row, if_idle}
 use Rattle.bk_engine.specs.declared.parts.Choice.{Choice}
 use Rattle.bk_engine.specs.declared.parts.Head.{Head}
-use Rattle.bk_engine.specs.Step.{runs, runs_to}
+use Rattle.bk_engine.specs.Step.{runs_to}
 use Rattle.bk_engine.specs.Stops.{wait_stop, stop_at}
 use Rattle.bk_engine.specs.declared.parts.TheConstants.{CLASS_NONE, CLASS_RESPONSE, CLASS_MEMORY, CLASS_REQUEST}
 use Rattle.bk_system.specs.declared.event.Event.{Event}
 use Rattle.bk_system.specs.declared.event.Event.TheVariants.{Issue, Command, Fill, Memory, Engine}
 use Rattle.bk_system.specs.State.{State, opening}
 use Rattle.bk_system.specs.Events.{cache_row, issue_taken, command_of, fill_of, without_command, without_fill, first, offered_head, is_choice, can_run, with_outcome}
-use Rattle.bk_system.specs.Runs.{is_enabled, is_quiet, is_rested, names_requests, run, completed_by, IsPrefix, IsComplete}
+use Rattle.bk_system.specs.Runs.{is_enabled, is_quiet, is_rested, names_requests, run, completed_by, IsPrefix}
 use Rattle.bk_msg.specs.declared.row.Row.{Row}
 use Rattle.bk_coherent.specs.Traffic.{IsStuck}
 use Rattle.bk_coherent.proofs.Resting.{all-below}
-use Rattle.bk_sound.specs.Sound.{IsSound, IsSoundState}
-use Rattle.bk_run.specs.Greedy.{if_enabled, next_operation, ready_operation, issue_with, choice_of, engine_event, fill_event, least_other, IsEnd}
+use Rattle.bk_sound.specs.Sound.{IsSound}
+use Rattle.bk_run.specs.Greedy.{if_enabled, next_operation, ready_operation, issue_with, choice_of, engine_event, fill_event, least_other}
 use Rattle.bk_run.proofs.InOrder.{greedy-completed, prefix-whole}
 use Rattle.bk_run.proofs.Lawful.{greedy_from-lawful}
 use Rattle.bk_run.proofs.Tight.{taken-some, some-ways}
@@ -238,7 +238,8 @@ no-next k program s lines c ways l idle ready = left (next_operation s lines c) 
     some false at e h = cc
 
     left : (o : Option Op)
-        → option_and_then {U = ℕ × Op} (λ op. if is_enabled k program s (Issue c 0 op) then Some (c, op) else None) o ≡ None → o ≡ None
+        → option_and_then {U = ℕ × Op} (λ op. if is_enabled k program s (Issue c 0 op) then Some (c, op) else None) o ≡ None
+        → o ≡ None
     left None h = refl
     left (Some op) h = absurd (some (is_enabled k program s (Issue c 0 op)) (c, op) (enabled op) h)
 
@@ -255,8 +256,8 @@ prefix-length xs ys p =
 
 -- THE END
 
-pub ended-complete : (policy : List WayView → ℕ → Type 0) (image : images.Parts) (trace : traces.Parts) (limit : ℕ) (events : List Event)
-    (complete : Bool) → IsSound image.instrs → InProfile trace.config → All (IsLine trace.config.caches) trace.lines
+pub ended-complete : (policy : List WayView → ℕ → Type 0) (image : images.Parts) (trace : traces.Parts) (limit : ℕ)
+    (events : List Event) (complete : Bool) → IsSound image.instrs → InProfile trace.config → All (IsLine trace.config.caches) trace.lines
     → IsEnded (job_of policy image.instrs trace limit) events complete → complete ≡ true
 ended-complete policy image trace limit events complete sound profile lines ended =
     let k = trace.config in

@@ -1,5 +1,7 @@
 pub mod Ends
 pub mod Decimals
+mod Budgets
+mod Completes
 mod Finishes
 mod Statuses
 mod Parts

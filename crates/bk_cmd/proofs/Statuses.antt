@@ -1,6 +1,6 @@
 -- The numbers of the statuses, which callers of the program rely on.
 use Rattle.std.proofs.Common.{◌≡◌, refl}
-use Rattle.bk_cmd.specs.declared.outcome.TheConstants.{OK, MEMORY, USAGE, MALFORMED, READ_FAULT, WRITE_FAULT, SPENT}
+use Rattle.bk_cmd.specs.declared.outcome.TheConstants.{OK, MEMORY, USAGE, MALFORMED, READ_FAULT, WRITE_FAULT}
 
 ok_is : OK ≡ 0
 ok_is = refl
@@ -19,6 +19,3 @@ read_fault_is = refl
 
 write_fault_is : WRITE_FAULT ≡ 7
 write_fault_is = refl
-
-spent_is : SPENT ≡ 9
-spent_is = refl

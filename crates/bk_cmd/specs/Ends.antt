@@ -5,7 +5,7 @@ use Rattle.bk_lce.specs.declared.line.WayView.{WayView}
 use Rattle.bk_cmd.specs.declared.outcome.Outcome.{Outcome}
 use Rattle.bk_cmd.specs.Answers.{Due}
 use Rattle.bk_cmd.specs.Inputs.{Files}
-use Rattle.bk_cmd.specs.Replays.{OfInputs, AreEvents, RunIsSpent, Reported, ReportedPart}
+use Rattle.bk_cmd.specs.Replays.{OfInputs, RunEnds, Reported, ReportedPart}
 use Rattle.bk_cmd.specs.Stops.{Says, IsRefused, IsBad}
 use Rattle.bk_cmd.specs.Words.{Command, Replay, command_of}
 use Rattle.bk_cmd.specs.Writes.{Wrote, WrotePart}
@@ -40,13 +40,8 @@ EndsRefused files command o = IsSomeAnd o.refusal (λ refusal. IsRefused files c
 abbrev pub EndsBad : Files → Command → Outcome → Type 0
 EndsBad files command o = IsBad files command o.file o.at o.column o.kind
 
--- status 9: a run that used its budget up
-abbrev pub EndsSpent : (List WayView → ℕ → Type 0) → Files → Command → Outcome → Type 0
-EndsSpent policy files (Replay output image trace) o = OfInputs files image trace (λ i t. RunIsSpent policy i t o.events.items)
-EndsSpent policy files command o = ⊥
-
 -- events are told only of a run, and then all of them
 abbrev pub TellsEvents : (List WayView → ℕ → Type 0) → Files → Command → Outcome → Type 0
 TellsEvents policy files (Replay output image trace) o =
-    (o.events.items ≡ []) ⊎ OfInputs files image trace (λ i t. AreEvents policy i t o.events.items)
+    (o.events.items ≡ []) ⊎ OfInputs files image trace (λ i t. RunEnds policy i t o.events.items)
 TellsEvents policy files command o = o.events.items ≡ []

@@ -3,6 +3,7 @@ pub mod Words
 pub mod Told
 pub mod Outcomes
 pub mod Inputs
+pub mod Needs
 pub mod Answers
 pub mod Stops
 pub mod Writes

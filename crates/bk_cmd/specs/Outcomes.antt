@@ -12,7 +12,7 @@ use Rattle.bk_cmd.specs.declared.outcome.Stop.{Stop}
 use Rattle.bk_cmd.specs.declared.outcome.Stop.TheVariants.{Memory, Usage, Unread, Bad, Refused}
 use Rattle.bk_cmd.specs.declared.outcome.Unread as unread
 use Rattle.bk_cmd.specs.declared.outcome.Unread.TheVariants.{Absent, Failed, TooLong}
-use Rattle.bk_cmd.specs.declared.outcome.TheConstants.{OK, MEMORY, USAGE, REFUSED, MALFORMED, ABSENT, READ_FAULT, WRITE_FAULT, TOO_LONG, SPENT}
+use Rattle.bk_cmd.specs.declared.outcome.TheConstants.{OK, MEMORY, USAGE, REFUSED, MALFORMED, ABSENT, READ_FAULT, WRITE_FAULT, TOO_LONG}
 
 -- all of an outcome but its events
 pub record Facts : Type 0 where
@@ -66,15 +66,11 @@ facts_of_stop (Bad file at column kind) =
     }
 facts_of_stop (Refused refusal) = no_run REFUSED 0 (Some refusal)
 
--- the statuses are 0 to 9
+-- the statuses are 0 to 8
 abbrev pub is_status : ℕ → Bool
-is_status n = nat_lt n 10
+is_status n = nat_lt n 9
 
--- those after a run
-abbrev pub is_after_run : ℕ → Bool
-is_after_run n = n == OK || n == MEMORY || n == WRITE_FAULT || n == SPENT
-
--- those where the sink may have taken something
+-- those where the sink may have taken something, and of a replay a run may have ended
 abbrev pub is_after_write : ℕ → Bool
 is_after_write n = n == OK || n == MEMORY || n == WRITE_FAULT
 
@@ -93,7 +89,7 @@ pub record LeavesRest (o : Outcome) : Type 0 where
   -- a file that is too long as a whole has no place
   pub whole_file : o.status ≡ TOO_LONG → is_limit o.kind ≡ false → (o.at ≡ 0) × (o.column ≡ 0) × (o.kind ≡ 0)
   pub refusal : (o.status == REFUSED) ≡ false → o.refusal ≡ None
-  pub events : is_after_run o.status ≡ false → o.events.items ≡ []
+  pub events : is_after_write o.status ≡ false → o.events.items ≡ []
   pub written : is_after_write o.status ≡ false → o.written ≡ 0
 
 abbrev pub after_run : ℕ → ℕ → Facts

@@ -1,5 +1,5 @@
 -- How a replay ends, once its files are read. The policy is the relation between the views of a set and the way of a victim.
-use Rattle.std.specs.Prelude.{◌≡◌, ℕ, ◌⊎◌, List, [], ◌++◌, length, Bool, true}
+use Rattle.std.specs.Prelude.{◌≡◌, ℕ, List, [], ◌++◌, length, true}
 use Rattle.bk_outer.specs.Reads.{Reads}
 use Rattle.bk_image.specs.Images as images
 use Rattle.bk_check.specs.Accepted.{Accepted}
@@ -9,7 +9,7 @@ use Rattle.bk_system.specs.declared.event.Event.{Event}
 use Rattle.bk_coherent.specs.Coherent.{StaysCoherent}
 use Rattle.bk_run.specs.Greedy.{budget_of}
 use Rattle.bk_run.specs.Jobs.{Job, job_of}
-use Rattle.bk_run.specs.Serial.{IsEnded, IsSpent}
+use Rattle.bk_run.specs.Serial.{IsEnded}
 use Rattle.bk_run.specs.Report.{IsReport}
 use Rattle.bk_run.specs.declared.serial_runs.SerialFault.{SerialFault}
 use Rattle.bk_run.specs.declared.serial_runs.SerialFault.TheVariants.{Spent, Unreported, Memory}
@@ -41,22 +41,14 @@ budget_for image trace = budget_of trace.config (length image.instrs) (length tr
 abbrev pub job_for : (List WayView → ℕ → Type 0) → images.Parts → traces.Parts → Job
 job_for policy image trace = job_of policy image.instrs trace (budget_for image trace)
 
--- the greedy run came to its end, complete or not
-abbrev pub RunEnds : (List WayView → ℕ → Type 0) → images.Parts → traces.Parts → List Event → Bool → Type 0
-RunEnds policy image trace events complete = IsEnded (job_for policy image trace) events complete
+-- the greedy run came to its end within its budget, and is complete
+abbrev pub RunEnds : (List WayView → ℕ → Type 0) → images.Parts → traces.Parts → List Event → Type 0
+RunEnds policy image trace events = IsEnded (job_for policy image trace) events true
 
--- the greedy run used its budget up, and one more event is enabled
-abbrev pub RunIsSpent : (List WayView → ℕ → Type 0) → images.Parts → traces.Parts → List Event → Type 0
-RunIsSpent policy image trace events = (complete : Bool) × IsSpent (job_for policy image trace) events complete
-
--- these are all events of the run, which came to its end, or used its budget up
-abbrev pub AreEvents : (List WayView → ℕ → Type 0) → images.Parts → traces.Parts → List Event → Type 0
-AreEvents policy image trace events = RunEnds policy image trace events true ⊎ RunIsSpent policy image trace events
-
--- what a fault of a run says
+-- What a fault of a run says. The budget is never used up.
 abbrev pub IsRunFault : (List WayView → ℕ → Type 0) → images.Parts → traces.Parts → SerialFault → Type 0
-IsRunFault policy image trace (Spent end) = RunIsSpent policy image trace end.events.items
-IsRunFault policy image trace (Unreported end) = RunEnds policy image trace end.events.items true
+IsRunFault policy image trace (Spent end) = ⊥
+IsRunFault policy image trace (Unreported end) = RunEnds policy image trace end.events.items
 IsRunFault policy image trace Memory = Unit {0}
 
 -- the log of a run, where it is asked for
@@ -73,7 +65,7 @@ pub record IsDue (output : Output) (image : images.Parts) (trace : traces.Parts)
 -- The run is complete, it was coherent after each of its events, and all that is due of it was taken.
 pub record Reported (policy : List WayView → ℕ → Type 0) (output : Output) (image : images.Parts) (trace : traces.Parts) (o : Outcome)
     (before after : List ℕ) : Type 0 where
-  pub ended : RunEnds policy image trace o.events.items true
+  pub ended : RunEnds policy image trace o.events.items
   pub coherent : StaysCoherent trace.config image.instrs o.events.items
   pub text : List ℕ
   pub is_due : IsDue output image trace o.events.items text
@@ -83,7 +75,7 @@ pub record Reported (policy : List WayView → ℕ → Type 0) (output : Output)
 pub record ReportedPart (policy : List WayView → ℕ → Type 0) (output : Output) (image : images.Parts) (trace : traces.Parts)
     (o : Outcome)
     (before after : List ℕ) : Type 0 where
-  pub ended : RunEnds policy image trace o.events.items true
+  pub ended : RunEnds policy image trace o.events.items
   pub coherent : StaysCoherent trace.config image.instrs o.events.items
   pub text : List ℕ
   pub is_due : IsDue output image trace o.events.items text

@@ -13,8 +13,7 @@ mod writing;
 
 pub use fault_texts::fault_line;
 pub use outcome::{
-    ABSENT, MALFORMED, MEMORY, OK, Outcome, READ_FAULT, REFUSED, SPENT, TOO_LONG, USAGE,
-    WRITE_FAULT,
+    ABSENT, MALFORMED, MEMORY, OK, Outcome, READ_FAULT, REFUSED, TOO_LONG, USAGE, WRITE_FAULT,
 };
 pub use run::run_plain;
 

@@ -25,8 +25,6 @@ pub const READ_FAULT: u8 = 6;
 pub const WRITE_FAULT: u8 = 7;
 /// A file, or a list in it, is over its limit.
 pub const TOO_LONG: u8 = 8;
-/// The run used its budget up.
-pub const SPENT: u8 = 9;
 
 /// How a command ended. What a status doesn't use is 0, none or empty.
 #[derive(Debug, Drop)]

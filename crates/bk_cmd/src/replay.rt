@@ -5,14 +5,14 @@ ghost use Rattle.std.specs.Fn.{FnReturnsAt};
 ghost use Rattle.bk_lce.specs.Policies.{IsPolicy};
 ghost use Rattle.bk_coherent.specs.Coherent.{StaysCoherent};
 ghost use Rattle.bk_outer.specs.Counts.{Rose};
-ghost use Rattle.bk_cmd.specs.Outcomes.{LeavesRest, is_after_run, is_after_write};
+ghost use Rattle.bk_cmd.specs.Outcomes.{LeavesRest, is_after_write};
 ghost use Rattle.bk_run.specs.Jobs.{job_of};
 ghost use Rattle.bk_run.specs.Serial.{IsEnded, IsFault};
 ghost use Rattle.bk_run.specs.Report.{IsReport};
-ghost use Rattle.bk_cmd.specs.Replays.{RunEnds, RunIsSpent, AreEvents, IsRunFault, IsDue, log_due, Reported, ReportedPart};
+ghost use Rattle.bk_cmd.specs.Replays.{RunEnds, IsRunFault, IsDue, log_due, Reported, ReportedPart};
 
 use crate::inputs::Inputs;
-use crate::outcome::{MEMORY, OK, Outcome, SPENT, Stop, WRITE_FAULT, ended, stopped};
+use crate::outcome::{MEMORY, OK, Outcome, Stop, WRITE_FAULT, ended, stopped};
 use crate::words::Output;
 use crate::writing::deliver;
 use bk_image::Image;
@@ -29,7 +29,7 @@ fn write_texts<K: Sink, F: Fn(&[WayView]) -> u8 + Copy + Send>(
     run: LoggedRun,
     sink: &mut K,
 ) -> Outcome
-    requires ended { RunEnds (FnReturnsAt F.Fn victim.now.pick) inputs.now.image inputs.now.trace run.end.events.items true }
+    requires ended { RunEnds (FnReturnsAt F.Fn victim.now.pick) inputs.now.image inputs.now.trace run.end.events.items }
     requires coherent { StaysCoherent inputs.now.trace.config inputs.now.image.instrs run.end.events.items }
     requires log { run.log.items ≡ log_due inputs.now.output inputs.now.image inputs.now.trace run.end.events.items }
     requires report { IsReport inputs.now.trace.config inputs.now.image.instrs inputs.now.trace.lines run.end.events.items
@@ -94,7 +94,7 @@ fn run<F: Fn(&[WayView]) -> u8 + Copy + Send>(
 ) -> Result<LoggedRun, SerialFault>
     requires { IsPolicy F.Fn victim.now.pick }
     ensures ok { IfOk result (λ run.
-        RunEnds (FnReturnsAt F.Fn victim.now.pick) inputs.now.image inputs.now.trace run.end.events.items true) }
+        RunEnds (FnReturnsAt F.Fn victim.now.pick) inputs.now.image inputs.now.trace run.end.events.items) }
     ensures coherent { IfOk result (λ run. StaysCoherent inputs.now.trace.config inputs.now.image.instrs run.end.events.items) }
     ensures log { IfOk result (λ run.
         run.log.items ≡ log_due inputs.now.output inputs.now.image inputs.now.trace run.end.events.items) }
@@ -136,18 +136,15 @@ pub(crate) fn replay<K: Sink, F: Fn(&[WayView]) -> u8 + Copy + Send>(
         (K.taken sink.new) }
     ensures memory_none { result.status ≡ MEMORY → result.written ≡ 0 →
         K.taken sink.new ≡ K.taken sink.old }
-    ensures spent { result.status ≡ SPENT →
-        RunIsSpent (FnReturnsAt F.Fn victim.now.pick) inputs.now.image inputs.now.trace result.events.items }
     ensures events { (result.events.items ≡ [])
-        ⊎ AreEvents (FnReturnsAt F.Fn victim.now.pick) inputs.now.image inputs.now.trace result.events.items }
-    ensures status { IsTrue (is_after_run result.status) }
-    ensures unwritten { is_after_write result.status ≡ false → sink.new ≡ sink.old }
+        ⊎ RunEnds (FnReturnsAt F.Fn victim.now.pick) inputs.now.image inputs.now.trace result.events.items }
+    ensures status { IsTrue (is_after_write result.status) }
     ensures rest { LeavesRest result }
     ensures faults_kept { K.faults sink.old ≤ K.faults sink.new }
 {
     match run(alloc, inputs, victim) {
         Ok(run) => write_texts(inputs, victim, run, sink),
-        Err(SerialFault::Spent(end)) => ended(SPENT, end.events, 0),
+        Err(SerialFault::Spent(_)) => unreachable!(),
         Err(SerialFault::Unreported(end)) => ended(MEMORY, end.events, 0),
         Err(SerialFault::Memory) => stopped(alloc, Stop::Memory),
     }

@@ -4,8 +4,9 @@ ghost use Rattle.std.specs.Prelude.{◌≡◌, ◌≤◌, ◌<◌, ◌⊎◌, �
 ghost use Rattle.std.specs.Fn.{FnReturnsAt};
 ghost use Rattle.bk_lce.specs.Policies.{IsPolicy};
 ghost use Rattle.bk_outer.specs.Counts.{Rose};
-ghost use Rattle.bk_cmd.specs.Ends.{OfCommand, EndsWhole, EndsInPart, EndsRefused, EndsBad, EndsSpent, TellsEvents};
+ghost use Rattle.bk_cmd.specs.Ends.{OfCommand, EndsWhole, EndsInPart, EndsRefused, EndsBad, TellsEvents};
 ghost use Rattle.bk_cmd.specs.Inputs.{seen, ReadsFirst};
+ghost use Rattle.bk_cmd.specs.Needs.{HasFiles};
 ghost use Rattle.bk_cmd.specs.Outcomes.{LeavesRest, is_status, is_after_write, is_limit};
 ghost use Rattle.bk_cmd.specs.Stops.{IsMissing};
 ghost use Rattle.bk_cmd.specs.Words.{command_of, names_of};
@@ -14,7 +15,7 @@ ghost use Rattle.bk_cmd.specs.declared.outcome.Unread.TheVariants as unread;
 use crate::answers::{answer_of, drawn};
 use crate::inputs::inputs_of;
 use crate::outcome::{
-    ABSENT, MALFORMED, MEMORY, OK, Outcome, READ_FAULT, REFUSED, SPENT, Stop, TOO_LONG, USAGE,
+    ABSENT, MALFORMED, MEMORY, OK, Outcome, READ_FAULT, REFUSED, Stop, TOO_LONG, USAGE,
     WRITE_FAULT, stopped,
 };
 use crate::replay::replay;
@@ -45,11 +46,11 @@ use std::alloc::Global;
 /// - `ABSENT`: there is no such file;
 /// - `READ_FAULT`: a file could not be read;
 /// - `WRITE_FAULT`: the sink failed, and took `written` bytes of what is due;
-/// - `TOO_LONG`: a file has too many bytes, an image or a text too many instructions, or a trace too many operations;
-/// - `SPENT`: the run used its budget up, and one more event is enabled.
+/// - `TOO_LONG`: a file has too many bytes, an image or a text too many instructions, or a trace too many operations.
 ///
 /// Each operation of a replay begins with the way that the victim policy answers for it. Only an image that is accepted is
-/// replayed, and its run is coherent at the opening and after each of its events (`docs/COHERENCE.md`).
+/// replayed, and its run is coherent at the opening and after each of its events (`docs/COHERENCE.md`). It comes to its end, complete,
+/// whatever the trace.
 pub fn run_plain<H: Shelf, K: Sink, F: Fn(&[WayView]) -> u8 + Copy + Send>(
     alloc: Global,
     words: &[String],
@@ -83,11 +84,9 @@ pub fn run_plain<H: Shelf, K: Sink, F: Fn(&[WayView]) -> u8 + Copy + Send>(
         (K.taken sink.old) (K.taken sink.new)) }
     ensures memory_none { result.status ≡ MEMORY → result.written ≡ 0 → K.taken sink.new ≡ K.taken sink.old }
 
-    // The verdict on an image, and a run that used its budget up.
+    // The verdict on an image, and the events of a run.
     ensures refused { result.status ≡ REFUSED → OfCommand words.now (λ command.
         EndsRefused (seen H.files H.reads shelf.old shelf.new) command result) }
-    ensures spent { result.status ≡ SPENT → OfCommand words.now (λ command.
-        EndsSpent (FnReturnsAt F.Fn victim.pick) (seen H.files H.reads shelf.old shelf.new) command result) }
     ensures events { OfCommand words.now (λ command.
         TellsEvents (FnReturnsAt F.Fn victim.pick) (seen H.files H.reads shelf.old shelf.new) command result)
         ⊎ (command_of words.now ≡ None) }
@@ -109,6 +108,11 @@ pub fn run_plain<H: Shelf, K: Sink, F: Fn(&[WayView]) -> u8 + Copy + Send>(
     ensures too_long { result.status ≡ TOO_LONG → is_limit result.kind ≡ false → OfCommand words.now (λ command.
         IsMissing (seen H.files H.reads shelf.old shelf.new) command result.file
         (Rose (H.faults shelf.old) (H.faults shelf.new)) (Rose (H.misses shelf.old) (H.misses shelf.new)) unread.TooLong) }
+
+    // Where each file of the command is there and suits it, and no read and no write fails, only want of memory keeps it from its end.
+    ensures complete { OfCommand words.now (HasFiles (H.files shelf.old))
+        → (Rose (H.faults shelf.old) (H.faults shelf.new) → ⊥) → (Rose (K.faults sink.old) (K.faults sink.new) → ⊥)
+        → (result.status ≡ OK) ⊎ (result.status ≡ MEMORY) }
 
     // What stays: the sink where nothing is written, the shelf's files; no count falls.
     ensures unwritten { is_after_write result.status ≡ false → sink.new ≡ sink.old }

@@ -329,10 +329,9 @@ fn bare(alloc: Global, status: u8) -> Outcome {
 }
 
 #[test]
-fn memory_and_spent_are_told(rt: HostRuntime) {
+fn want_of_memory_is_told(rt: HostRuntime) {
     let alloc = rt.alloc();
     assert!(rt; fault_line(&bare(alloc, MEMORY)).as_str() == "bedrock: memory");
-    assert!(rt; fault_line(&bare(alloc, SPENT)).as_str() == "bedrock: spent");
 }
 
 /// The words `verify a.bk`.

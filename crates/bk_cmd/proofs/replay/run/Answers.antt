@@ -13,7 +13,8 @@ returns-clause-err g c =
     let same : c.budget-events_limit.result ≡ budget_for c.args.inputs.now.image c.args.inputs.now.trace = cc in
     fault-told (FnReturnsAt g.F.Fn c.args.victim.now.pick) c.image-image.result.now c.args.inputs.now.image c.args.inputs.now.trace
     c.budget-events_limit.result
-    c.image-image.ensures.value same c.image-image.ensures.sound (subst InProfile c.config.ensures.value c.config.ensures.profile)
+    c.image-image.ensures.value same c.image-image.ensures.sound c.image-image.ensures.bounded
+    (subst InProfile c.config.ensures.value c.config.ensures.profile)
     (subst (λ (lines : List (ℕ × Op)). All (λ line. IsLine c.args.inputs.now.trace.config.caches line) lines) c.lines.ensures.value
     c.lines.ensures.each)
     c.run_within.result c.run_within.ensures.fault
@@ -23,7 +24,8 @@ returns-clause-ok g c =
     let same : c.budget-events_limit.result ≡ budget_for c.args.inputs.now.image c.args.inputs.now.trace = cc in
     end-told (FnReturnsAt g.F.Fn c.args.victim.now.pick) c.image-image.result.now c.args.inputs.now.image c.args.inputs.now.trace
     c.budget-events_limit.result
-    c.image-image.ensures.value same c.image-image.ensures.sound (subst InProfile c.config.ensures.value c.config.ensures.profile)
+    c.image-image.ensures.value same c.image-image.ensures.sound c.image-image.ensures.bounded
+    (subst InProfile c.config.ensures.value c.config.ensures.profile)
     (subst (λ (lines : List (ℕ × Op)). All (λ line. IsLine c.args.inputs.now.trace.config.caches line) lines) c.lines.ensures.value
     c.lines.ensures.each)
     c.run_within.result c.run_within.ensures.ok
