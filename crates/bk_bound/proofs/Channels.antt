@@ -91,8 +91,8 @@ fill-more {X} n f c o y =
     (sum-more n o 1 (λ j. length (f c j)) (λ j. length (put2 f c o (f c o ++ y ∷ []) c j))
     (λ j e. ap (λ (xs : List X). length xs) (put2-column f c o _ c j e)) (one-longer (f c o) _ y (put2-here f c o _)))
 
-pub fill-less : {X : Type 0} (n : ℕ) (f : ℕ → ℕ → List X) (c o : ℕ) (y : X) (rest : List X) → f c o ≡ y ∷ rest → c < n → o < n
-    → all_between n (put2 f c o rest) + 1 ≡ all_between n f
+pub fill-less : {X : Type 0} (n : ℕ) (f : ℕ → ℕ → List X) (c o : ℕ) (y : X) (rest : List X) → f c o ≡ y ∷ rest
+    → c < n → o < n → all_between n (put2 f c o rest) + 1 ≡ all_between n f
 fill-less {X} n f c o y rest e l other =
     num _ _ (all_in n (f c)) (all_in n (put2 f c o rest c))
     (sum-one n c (λ i. all_in n (f i)) (λ i. all_in n (put2 f c o rest i))

@@ -114,7 +114,8 @@ pop-write sets e held asked =
     r : Sets
     r = empty_head (record sets { head = HEAD_WB; wb = WB_DIRTY })
 
-pub pop-null : (sets : Sets) → sets.head ≡ HEAD_NULL_WB → sets.stage ≡ STAGE_HELD → sets.wb ≡ WB_ASKED → Popped (pop sets) sets 1
+pub pop-null : (sets : Sets) → sets.head ≡ HEAD_NULL_WB → sets.stage ≡ STAGE_HELD → sets.wb ≡ WB_ASKED
+    → Popped (pop sets) sets 1
 pop-null sets e held asked =
     pops-as sets HEAD_NULL_WB 1 e (lower-popped _ r sets 1 (lower-nothing r r (lower-itself r)) (answer-popped r sets held held refl
     (subst (λ (v : ℕ). 0 + block_due sets.mem + 1 ≤ answer_due v + block_due sets.mem) (sym asked) (one-less (block_due sets.mem)))
@@ -126,7 +127,8 @@ pop-null sets e held asked =
     less : (i : ℕ) → 0 + i ≤ 1 + i
     less i = omega arith
 
-pub pop-block : (sets : Sets) → sets.head ≡ HEAD_BLOCK → sets.stage ≡ STAGE_HELD → sets.mem ≡ MEM_ASKED → Popped (pop sets) sets 1
+pub pop-block : (sets : Sets) → sets.head ≡ HEAD_BLOCK → sets.stage ≡ STAGE_HELD → sets.mem ≡ MEM_ASKED
+    → Popped (pop sets) sets 1
 pop-block sets e held asked =
     pops-as sets HEAD_BLOCK 1 e (lower-popped _ r sets 1 (lower-nothing r r (lower-itself r)) (answer-popped r sets held held refl
     (subst (λ (v : ℕ). answer_due sets.wb + 0 + 1 ≤ answer_due sets.wb + block_due v) (sym asked) (one (answer_due sets.wb)))

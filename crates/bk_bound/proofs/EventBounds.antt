@@ -72,7 +72,8 @@ module _ (k : Shape) (image : Parts) (profile : InProfile k) (made : IsMade imag
       times : (n : ℕ) → n * (i + p) ≡ n * i + n * p
       times n = omega arith
 
-      rounds : (a b c d l r u v w : ℕ) → w ≡ u + v → b + d + g ≤ a + l + u → c + l + j ≤ b + r + v → c + d + (g + j) ≤ a + r + w
+      rounds : (a b c d l r u v w : ℕ) → w ≡ u + v → b + d + g ≤ a + l + u → c + l + j ≤ b + r + v
+          → c + d + (g + j) ≤ a + r + w
       rounds a b c d l r u v w e q y = omega (arith, e, q, y)
 
       messages : (a b c u v w : ℕ) → w ≡ u + v → b + h ≤ a + u → c + o ≤ b + v → c + (h + o) ≤ a + w
@@ -134,7 +135,8 @@ round-few image p = go (is_wait (slice_get image.instrs p)) (length image.instrs
 -- THE BOUND
 
 -- the three counts together are within the budget, with 114 events to spare for each operation
-within-budget : (c n i j o : ℕ) → j ≤ (c + 7) * n * i + n → o ≤ (2 * c + 13) * i → i + j + o + i * 114 ≤ i * (4 * c + 32) * (n + 4) + n
+within-budget : (c n i j o : ℕ) → j ≤ (c + 7) * n * i + n → o ≤ (2 * c + 13) * i
+    → i + j + o + i * 114 ≤ i * (4 * c + 32) * (n + 4) + n
 within-budget c n i j o p q =
     num ((c + 7) * n * i) ((2 * c + 13) * i) (i * (3 * c * n + 25 * n + 14 * c)) (i * (4 * c + 32) * (n + 4)) (i * 114) parts p q
   where

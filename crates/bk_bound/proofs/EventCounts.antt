@@ -91,7 +91,8 @@ instruction-numbers n i j u v l r false p heads round =
     num a b c d h o q e f g = omega (arith, e, f, g, round)
 
 -- an event of a cache or the memory: with p heads for each of o operations
-outside-numbers : (n i j u v l r p o : ℕ) → i ≤ j + p * o → u ≡ v → l ≡ r → n * i + l + n * u + 0 ≤ n * j + r + n * v + p * n * o
+outside-numbers : (n i j u v l r p o : ℕ) → i ≤ j + p * o → u ≡ v → l ≡ r
+    → n * i + l + n * u + 0 ≤ n * j + r + n * v + p * n * o
 outside-numbers n i j u v l r p o heads e f =
     num (n * i) (n * u) (n * j) (n * v) (n * (j + p * o)) (p * n * o) (mul-le-mul_left n heads) (ap (λ (q : ℕ). n * q) e) right
   where
@@ -148,7 +149,8 @@ module _ (k : Shape) (image : Parts) (profile : InProfile k) (made : IsMade imag
               → round_left image later.engine.core.place + 1 ≤ round_left image place + begun image (Some f)
           at p i l =
               subst (λ (o : Option Form). round_left image later.engine.core.place + 1 ≤ round_left image place + begun image o) here
-              (subst (λ (q : ℕ). round_left image q + 1 ≤ round_left image place + begun image (slice_get image.instrs place)) (sym i) l)
+              (subst (λ (q : ℕ). round_left image q + 1 ≤ round_left image place + begun image (slice_get image.instrs place))
+              (sym i) l)
 
           within : (p : ℕ) → later.engine.core.place ≡ p → p < length image.instrs
           within p i = subst (λ (q : ℕ). q < length image.instrs) i onward.stands.within

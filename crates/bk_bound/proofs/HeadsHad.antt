@@ -46,8 +46,8 @@ first-of (h ∷ ms) m e = (ms, ap (λ (y : Row). y ∷ ms) (same e))
     same : ◌≡◌ {A = Option Row} (Some h) (Some m) → h ≡ m
     same e = cc
 
-machine-head : {X : Type 0} (h : Row → Option X) (ms : List Row) (m : Row) (rest : List Row) (y : X) → ms ≡ m ∷ rest → h m ≡ Some y
-    → filter_map h ms ≡ y ∷ filter_map h rest
+machine-head : {X : Type 0} (h : Row → Option X) (ms : List Row) (m : Row) (rest : List Row) (y : X) → ms ≡ m ∷ rest
+    → h m ≡ Some y → filter_map h ms ≡ y ∷ filter_map h rest
 machine-head {X} h ms m rest y e i = ap (filter_map h) e ∙ ap (λ (o : Option X). cons_option o (filter_map h rest)) i
 
 -- while a response is under way its group isn't free
@@ -73,7 +73,8 @@ module _ (k : Shape) (s : State) (told : Told) (profile : InProfile k) (tied : T
       num : (a i b c d : ℕ) → i ≤ b → i ≡ 1 → n ≤ 2 → n ≤ a + 2 * b + c + d
       num a i b c d l e few = omega (arith, l, e, few)
 
-  by-request : (c : ℕ) (y : ℕ × Request) (rest : List (ℕ × Request)) → world.request c ≡ y ∷ rest → 1 ≤ heads_counted k s told
+  by-request : (c : ℕ) (y : ℕ × Request) (rest : List (ℕ × Request)) → world.request c ≡ y ∷ rest
+      → 1 ≤ heads_counted k s told
   by-request c y rest e =
       last ((k.caches + 7) * waiting_requests k world) ((k.caches + 7) * 1) (pending_groups k world) (open_acks k world)
       (heads_due (exact k s.engine told))

@@ -17,7 +17,8 @@ use Rattle.bk_exact.specs.Told.{Told}
 use Rattle.bk_exact.specs.Ties.{Tied, told_world}
 
 pub record Inside (k : Shape) (world : World) : Type 0 where
-  pub request : (c : ℕ) (y : ℕ × Request) (rest : List (ℕ × Request)) → world.request c ≡ y ∷ rest → (c < k.caches) × (y.0 < k.sets)
+  pub request : (c : ℕ) (y : ℕ × Request) (rest : List (ℕ × Request)) → world.request c ≡ y ∷ rest
+      → (c < k.caches) × (y.0 < k.sets)
   pub command : (c : ℕ) (y : ℕ × ToCache) (rest : List (ℕ × ToCache)) → world.command c ≡ y ∷ rest → c < k.caches
   pub fill : (c o : ℕ) (y : ℕ × FillMessage) (rest : List (ℕ × FillMessage)) → world.fill c o ≡ y ∷ rest
       → (c < k.caches) × (o < k.caches)
@@ -27,8 +28,8 @@ pub record Inside (k : Shape) (world : World) : Type 0 where
 -- CACHES
 
 -- a cache whose channel holds something isn't beyond the configuration
-within : {X : Type 0} (k : Shape) (c : ℕ) (h : Row → Option X) (ms : List Row) (y : X) (rest : List X) → (k.caches ≤ c → ms ≡ [])
-    → filter_map h ms ≡ y ∷ rest → c < k.caches
+within : {X : Type 0} (k : Shape) (c : ℕ) (h : Row → Option X) (ms : List Row) (y : X) (rest : List X)
+    → (k.caches ≤ c → ms ≡ []) → filter_map h ms ≡ y ∷ rest → c < k.caches
 within {X} k c h ms y rest outside e = go (nat_lt c k.caches) refl
   where
     no : [] ≡ y ∷ rest → ⊥

@@ -171,7 +171,8 @@ module _ (k : Shape) (program : List Form) (s : State) (told : Told) (choice : C
             (ap (λ (g : Form). number_in (deferred_after k core g told.deferred)) j ∙ deferred-one k core.head r.1)
             (ap (λ (g : Form). is_wait (Some g)) j)
           where
-            num : (a b i j : ℕ) (waits : Bool) → a ≤ 1 → b ≡ 0 → j ≡ 1 → waits ≡ false → a + b + (if waits then 1 else 0) ≤ i + j
+            num : (a b i j : ℕ) (waits : Bool) → a ≤ 1 → b ≡ 0 → j ≡ 1 → waits ≡ false
+                → a + b + (if waits then 1 else 0) ≤ i + j
             num a b i j true p q r u = absurd (cc)
             num a b i j false p q r u = omega (arith, p, q, r)
         by-form (forms.Popq wp) j i o = absurd (cc)

@@ -88,8 +88,8 @@ action-costs k core h x world forms.Memwb b p i = kept-costs k h core.dirty x b 
 action-costs k core h x world (forms.Wde y) b p i = at-most 0 _ b i (itself-le 0)
 action-costs k core h x world (forms.Wds who y) b p i =
     if-most 0 (who == WHOSE_OWN) _ _ b (λ j. at-most 0 _ b j (itself-le 0))
-    (λ j. if-most 0 (who == WHOSE_OWNER) _ None b (λ l. map-most 0 _ (λ at. PaysOwner (debt_at k h at y world) x) b (λ at. itself-le 0) l)
-    (λ l. absurd (cc)) j) i
+    (λ j. if-most 0 (who == WHOSE_OWNER) _ None b
+    (λ l. map-most 0 _ (λ at. PaysOwner (debt_at k h at y world) x) b (λ at. itself-le 0) l) (λ l. absurd (cc)) j) i
 action-costs k core h x world forms.Fin b p i = at-most 0 _ b i (itself-le 0)
 action-costs k core h x world (forms.Popq wp) b p i = absurd (cc)
 action-costs k core h x world f b p i = at-most 0 Idles b i (itself-le 0)

@@ -157,8 +157,8 @@ module _ (k : Shape) (program : List Form) (s : State) (told : Told) (choice : C
           (messages-fall k program s told choice (forms.Popq wp) profile tied range here can unmet) quiet due.1 popped.messages;
     }
       where
-        heads : (a t b c d j h o u v : ℕ) → t ≡ n → a + t ≤ b → c ≤ d → d + i ≤ j → h ≡ 1 → u ≡ 0 → 1 + o ≤ v + n + i
-            → a + c + (h + o) + 0 ≤ b + j + (u + v)
+        heads : (a t b c d j h o u v : ℕ) → t ≡ n → a + t ≤ b → c ≤ d → d + i ≤ j → h ≡ 1 → u ≡ 0
+            → 1 + o ≤ v + n + i → a + c + (h + o) + 0 ≤ b + j + (u + v)
         heads a t b c d j h o u v p q r e f g l = omega (arith, p, q, r, e, f, g, l)
 
         messages : (a t b c d i j : ℕ) → a + t ≤ b + c → c ≡ 0 → d ≤ i → i ≤ j → a + d ≤ b + j
@@ -183,8 +183,9 @@ module _ (k : Shape) (program : List Form) (s : State) (told : Told) (choice : C
         num a b l e = omega (arith, l, e)
 
     -- a request's heads and messages of the mask are new ones
-    request-counts : head_number head.message ≡ HEAD_REQUEST → heads_taken act.acts.action ≡ 6 → messages_taken act.acts.action ≡ 15
-        → messages_sent act.acts.action ≡ 0 → ((d : Option Deferred) → deferred_popped head.message d ≡ d)
+    request-counts : head_number head.message ≡ HEAD_REQUEST → heads_taken act.acts.action ≡ 6
+        → messages_taken act.acts.action ≡ 15 → messages_sent act.acts.action ≡ 0
+        → ((d : Option Deferred) → deferred_popped head.message d ≡ d)
         → Counts k s later told next false
     request-counts i taken off quiet same = record {
       heads = heads (heads_of k (told_world k later next)) (heads_taken act.acts.action) (heads_of k world) (heads_due e_later)

@@ -34,8 +34,8 @@ StaysDeferred m = (d : Option Deferred) → deferred_popped m d ≡ d
 
 -- By the head: its number, and what its action takes. None sends a message.
 pub data PopOf (world : World) (m : Row) (a : Action) : Type 0 where
-  OfRequest : head_number m ≡ HEAD_REQUEST → heads_taken a ≡ 6 → messages_taken a ≡ 15 → messages_sent a ≡ 0 → StaysDeferred m
-      → PopOf world m a
+  OfRequest : head_number m ≡ HEAD_REQUEST → heads_taken a ≡ 6 → messages_taken a ≡ 15 → messages_sent a ≡ 0
+      → StaysDeferred m → PopOf world m a
   OfAck : head_number m ≡ HEAD_INV_ACK → heads_taken a ≡ 1 → messages_sent a ≡ 0 → StaysDeferred m → PopOf world m a
   OfSettle : head_number m ≡ HEAD_COH_ACK → heads_taken a ≡ 2 → messages_sent a ≡ 0
       → ((d : Option Deferred) → deferred_popped m d ≡ None) → PopOf world m a
@@ -52,7 +52,8 @@ by-same k world m y z e h = subst (λ (a : GroupAction). Permitted k a.0 a.1 wor
     parts e = cc
 
 pub pop-of : (k : Shape) (x : Option (ℕ × Transaction)) (c : ℕ) (m : Row) (world : World) (z : GroupAction)
-    → single_head (only (head_number m)) ≡ true → pop_action k x c m world ≡ Some z → Permitted k z.0 z.1 world → PopOf world m z.1
+    → single_head (only (head_number m)) ≡ true → pop_action k x c m world ≡ Some z → Permitted k z.0 z.1 world
+    → PopOf world m z.1
 pop-of k (Some y) c (rows.InvAck from to addr) world z i e =
     by-same k world (rows.InvAck from to addr) _ z e (λ p. OfAck refl refl refl (λ d. refl))
 pop-of k x c (rows.CohAck from to addr) world z i e =

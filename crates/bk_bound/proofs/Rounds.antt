@@ -19,7 +19,8 @@ abbrev pub begun : Parts → Option Form → ℕ
 begun image f = if is_wait f then length image.instrs else 0
 
 -- of two places and whether they are those of a `wfq`, in an image of n instructions
-forward : (n p q : ℕ) (a b : Bool) → q < n → p < q → (if b then 0 else n - q) + 1 ≤ (if a then 0 else n - p) + (if a then n else 0)
+forward : (n p q : ℕ) (a b : Bool) → q < n → p < q
+    → (if b then 0 else n - q) + 1 ≤ (if a then 0 else n - p) + (if a then n else 0)
 forward n p q true true l e = omega (arith, l, e)
 forward n p q true false l e = omega (arith, l, e)
 forward n p q false true l e = omega (arith, l, e)
@@ -52,7 +53,8 @@ jumps-round image p to f sets r l within o t j = go (nat_le to p) refl
 
     go : (b : Bool) → nat_le to p ≡ b → round_left image to + 1 ≤ round_left image p + begun image (slice_get image.instrs p)
     go true e =
-        subst (λ (b : Bool). (if b then 0 else length image.instrs - to) + 1 ≤ round_left image p + begun image (slice_get image.instrs p))
+        subst (λ (b : Bool). (if b then 0 else length image.instrs - to) + 1
+        ≤ round_left image p + begun image (slice_get image.instrs p))
         (sym (implied (nat_le to p) (is_wait (slice_get image.instrs to)) e waits))
         (back (length image.instrs) p (is_wait (slice_get image.instrs p)) l)
     go false e =

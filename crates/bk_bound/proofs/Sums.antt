@@ -50,7 +50,8 @@ same-above (suc n) c f g e l =
     num a b c d p q = omega (arith, p, q)
 
 -- where c is below n the sums differ as the values there
-pub sum-one : (n c : ℕ) (f g : ℕ → ℕ) → ((i : ℕ) → i ≢ c → g i ≡ f i) → c < n → sum_below n g + f c ≡ sum_below n f + g c
+pub sum-one : (n c : ℕ) (f g : ℕ → ℕ) → ((i : ℕ) → i ≢ c → g i ≡ f i) → c < n
+    → sum_below n g + f c ≡ sum_below n f + g c
 sum-one zero c f g e l = absurd (omega (arith, l))
 sum-one (suc n) c f g e l = go (λ b. sum-one n c f g e b) (eqb c n) refl
   where
@@ -82,7 +83,8 @@ sum-one (suc n) c f g e l = go (λ b. sum-one n c f g e b) (eqb c n) refl
     go r false i = below r (other i)
 
 -- wherever c is: no more than by the value there
-pub sum-more : (n c d : ℕ) (f g : ℕ → ℕ) → ((i : ℕ) → i ≢ c → g i ≡ f i) → g c ≤ f c + d → sum_below n g ≤ sum_below n f + d
+pub sum-more : (n c d : ℕ) (f g : ℕ → ℕ) → ((i : ℕ) → i ≢ c → g i ≡ f i) → g c ≤ f c + d
+    → sum_below n g ≤ sum_below n f + d
 sum-more zero c d f g e l = omega arith
 sum-more (suc n) c d f g e l = go (sum-more n c d f g e l) (eqb n c) refl
   where

@@ -27,7 +27,8 @@ begins (Some a) = false
 
 -- TABLES: the rows of commands, fills and memory begin none
 
-block-none : (g c t w : ℕ) (y : Coh) (ws : ℕ → ℕ) (rest : List (ℕ × ToCache)) (op : Op) → begins (block_row g c t w y ws rest op) ≡ false
+block-none : (g c t w : ℕ) (y : Coh) (ws : ℕ → ℕ) (rest : List (ℕ × ToCache)) (op : Op)
+    → begins (block_row g c t w y ws rest op) ≡ false
 block-none g c t w y ws rest op = grind arith
 
 wake-none : (world : World) (g c t w : ℕ) (rest : List (ℕ × ToCache)) (op : Op) → begins (wake_row world g c t w rest op) ≡ false
@@ -45,16 +46,18 @@ evicted-none g c t w rest op = grind arith
 fill-none : (g c o : ℕ) (m : FillMessage) (rest : List (ℕ × FillMessage)) (op : Op) → begins (fill_row g c o m rest op) ≡ false
 fill-none g c o m rest op = grind arith
 
-way-none : (o : Option ℕ) (f : ℕ → Option (ℕ × MachineStep)) → ((w : ℕ) → begins (f w) ≡ false) → begins (at_way o f None) ≡ false
+way-none : (o : Option ℕ) (f : ℕ → Option (ℕ × MachineStep)) → ((w : ℕ) → begins (f w) ≡ false)
+    → begins (at_way o f None) ≡ false
 way-none None f e = refl
 way-none (Some w) f e = e w
 
-if-none : (b : Bool) (o p : Option (ℕ × MachineStep)) → begins o ≡ false → begins p ≡ false → begins (if b then o else p) ≡ false
+if-none : (b : Bool) (o p : Option (ℕ × MachineStep)) → begins o ≡ false → begins p ≡ false
+    → begins (if b then o else p) ≡ false
 if-none true o p i j = i
 if-none false o p i j = j
 
-busy-none : (g : ℕ) (o : Option (ℕ × InProgress)) (f : InProgress → Option (ℕ × MachineStep)) → ((b : InProgress) → begins (f b) ≡ false)
-    → begins (for_busy g o f) ≡ false
+busy-none : (g : ℕ) (o : Option (ℕ × InProgress)) (f : InProgress → Option (ℕ × MachineStep))
+    → ((b : InProgress) → begins (f b) ≡ false) → begins (for_busy g o f) ≡ false
 busy-none g None f e = refl
 busy-none g (Some b) f e = if-none (b.0 == g) (f b.1) None (e b.1) refl
 

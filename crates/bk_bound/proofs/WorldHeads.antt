@@ -141,8 +141,8 @@ module _ (k : Shape) (world : World) (inv : Invariant k world) (inside : Inside 
       num a b h i j p q r = omega (arith, p, q, r)
 
   -- OTHERS leave requests and pending groups, and have no more acks to come
-  same-acks : (later : World) → later.request ≡ world.request → later.pending ≡ world.pending → open_acks k later ≤ open_acks k world
-      → heads_of k later + 0 ≤ heads_of k world
+  same-acks : (later : World) → later.request ≡ world.request → later.pending ≡ world.pending
+      → open_acks k later ≤ open_acks k world → heads_of k later + 0 ≤ heads_of k world
   same-acks later p q l =
       parts-fall (k.caches + 7) (waiting_requests k world) (pending_groups k world) (open_acks k world) (waiting_requests k later)
       (pending_groups k later) (open_acks k later) 0
@@ -191,12 +191,14 @@ module _ (k : Shape) (world : World) (inv : Invariant k world) (inside : Inside 
   allowed : (g : ℕ) (a : Action) → Permitted k g a world → Allowed g a world
   allowed g a p = permitted_allowed k g world inv a p
 
-  leaves : (g : ℕ) (a : Action) → (action_after g a world).request ≡ world.request → (action_after g a world).pending ≡ world.pending
-      → open_acks k (action_after g a world) ≤ open_acks k world → heads_of k (action_after g a world) + 0 ≤ heads_of k world
+  leaves : (g : ℕ) (a : Action) → (action_after g a world).request ≡ world.request
+      → (action_after g a world).pending ≡ world.pending → open_acks k (action_after g a world) ≤ open_acks k world
+      → heads_of k (action_after g a world) + 0 ≤ heads_of k world
   leaves g a p q l = same-acks (action_after g a world) p q l
 
-  grants : (g : ℕ) (a : Action) → (action_after g a world).request ≡ world.request → (action_after g a world).pending ≡ world.pending
-      → open_acks k (action_after g a world) ≡ 0 → heads_of k (action_after g a world) + 0 ≤ heads_of k world
+  grants : (g : ℕ) (a : Action) → (action_after g a world).request ≡ world.request
+      → (action_after g a world).pending ≡ world.pending → open_acks k (action_after g a world) ≡ 0
+      → heads_of k (action_after g a world) + 0 ≤ heads_of k world
   grants g a p q e = leaves g a p q (none (open_acks k (action_after g a world)) (open_acks k world) e)
 
   -- EACH ACTION

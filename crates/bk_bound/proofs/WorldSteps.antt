@@ -82,8 +82,8 @@ module _ (k : Shape) (world : World) (inside : Inside k world) where
         ((2 * k.caches + 13) * waiting_requests k world) (open_holders k world) (commands_under_way k later) (fills_under_way k later)
         (length later.memout) ((2 * k.caches + 13) * waiting_requests k later) (open_holders k later) (length rest)
         (ap (λ (f : ℕ → List (ℕ × ToCache)). all_in k.caches f) p)
-        (ap (λ (f : ℕ → ℕ → List (ℕ × FillMessage)). all_between k.caches f) q) (ap (λ (xs : List (ℕ × ToMemory)). length xs) r)
-        (ap (λ (xs : List (ℕ × ToMemory)). length xs) e)
+        (ap (λ (f : ℕ → ℕ → List (ℕ × FillMessage)). all_between k.caches f) q)
+        (ap (λ (xs : List (ℕ × ToMemory)). length xs) r) (ap (λ (xs : List (ℕ × ToMemory)). length xs) e)
         (ap (λ (f : ℕ → List (ℕ × Request)). (2 * k.caches + 13) * all_in k.caches f) u) h;
   }
     where
@@ -92,7 +92,8 @@ module _ (k : Shape) (world : World) (inside : Inside k world) where
       num a b c d h i j o u v n p q r e f g = omega (arith, p, q, r, e, f, g)
 
   -- ISSUE: what a cache does by itself changes no channel; a request has the heads and messages of one operation
-  unchanged : (later : World) → heads_of k later ≡ heads_of k world → messages_of k later ≡ messages_of k world → Begins k world later
+  unchanged : (later : World) → heads_of k later ≡ heads_of k world → messages_of k later ≡ messages_of k world
+      → Begins k world later
   unchanged later p q = record {
     heads = num (heads_of k later) (heads_of k world) (k.caches + 7) p;
     messages = num (messages_of k later) (messages_of k world) (2 * k.caches + 13) q;

@@ -85,25 +85,29 @@ module _ {Machine : Type 1} {𝓤 : Ura Machine} (𝓛 : Logic 𝓤) (at_mem : M
     module _ (C : Calls 𝓤 H) (Λ : Loops 𝓤 H) where
       walk : length k.now < 2 ^ 64 → length s.now < 2 ^ 64 →
           ent 𝓤 (on_entry 𝓛 it.signature (κ, (κ', (κ'', tt))) (q, (q', (q'', tt))) x at)
-          (WpFn 𝓤 H C Λ code.function (vptr b o ∷ slice_val k.ref_ptr (length k.now) ∷ slice_val s.ref_ptr (length s.now) ∷ []) Post)
+          (WpFn 𝓤 H C Λ code.function
+          (vptr b o ∷ slice_val k.ref_ptr (length k.now) ∷ slice_val s.ref_ptr (length s.now) ∷ []) Post)
       walk fk fs =
           qed 𝓛
           ((‵ (flft κ q) ⊛ (‵ (flft κ' q') ⊛ (‵ (flft κ'' q'') ⊛ ‵ ftrue)))
-          ∷ ‵ (owns (MutRef (named 0) κ T.the_row ∷ ShrSlice (named 1) κ' u8 ∷ ShrSlice (named 2) κ'' u8 ∷ []) x at) ∷ []) ∵
+          ∷ ‵ (owns (MutRef (named 0) κ T.the_row ∷ ShrSlice (named 1) κ' u8 ∷ ShrSlice (named 2) κ'' u8 ∷ []) x at)
+          ∷ []) ∵
           split ! $ move ! (2 ∷ []) $ fsplit ! $ fsplit3 ! $ drop ! $ move ! (0 ∷ 1 ∷ 3 ∷ []) $
           enter ! C Λ code.function (vptr b o ∷ slice_val k.ref_ptr (length k.now) ∷ slice_val s.ref_ptr (length s.now) ∷ []) _ $
           alloc_all ! (λ l. pass_all ! refl
           ((tt, tt), ((tt, (tt, (record { fits = fk }, tt))), ((tt, (tt, (record { fits = fs }, tt))), tt))) $
           move ! (0 ∷ 1 ∷ 2 ∷ []) $ opens ! tt T.the_row {h = h} b o (λ vs.
           sets ! (of_opd ! (unit_lit !)) refl (tt, tt) $
-          move ! (1 ∷ []) $ use1 𝓛 (‵ ((T.the_row).own_val h' vs)) (id⊢ 𝓤 _) $ move ! (1 ∷ 0 ∷ []) $ closes ! tt T.the_row h' vs b o $
+          move ! (1 ∷ []) $ use1 𝓛 (‵ ((T.the_row).own_val h' vs)) (id⊢ 𝓤 _) $
+          move ! (1 ∷ 0 ∷ []) $ closes ! tt T.the_row h' vs b o $
           returns ! (look_at ! 0 refl) $ free_all ! refl $
           keep ! (0 ∷ 1 ∷ 2 ∷ 3 ∷ 4 ∷ []) $ by ! exits))
 
 module _ {Machine : Type 1} {𝓤 : Ura Machine} (𝓛 : Logic 𝓤) (at_mem : Memory → SProp 𝓤) (run : Routine → Fun 𝓤) where
   open 𝓛 use {H}
 
-  walks : (C : Calls 𝓤 H) (Λ : Loops 𝓤 H) → Walks 𝓛 it.ended stayed (WpFn 𝓤 H C Λ code.function) (it.clauses 𝓛 at_mem run)
+  walks : (C : Calls 𝓤 H) (Λ : Loops 𝓤 H)
+      → Walks 𝓛 it.ended stayed (WpFn 𝓤 H C Λ code.function) (it.clauses 𝓛 at_mem run)
   walks C Λ =
       walked 𝓛 it.ended stayed (it.clauses 𝓛 at_mem run) (WpFn 𝓤 H C Λ code.function)
       (λ κs. (mut_vals, (shr_slice_vals, (shr_slice_vals, tt))))
@@ -118,15 +122,18 @@ module _ {Machine : Type 1} {𝓤 : Ura Machine} (𝓛 : Logic 𝓤) (at_mem : M
     (Goes-none_slice 𝓛 3 (1 ∷ []) tt (plain (λ _. u8)) yes, (Goes-none_slice 𝓛 3 (2 ∷ []) tt (plain (λ _. u8)) yes, tt)),
   )
 
-meets : {Machine : Type 1} {𝓤 : Ura Machine} (𝓛 : Logic 𝓤) → (at_mem : Memory → SProp 𝓤) (run : Routine → Fun 𝓤) (𝓣 : Tables 𝓤 𝓛.H)
+meets : {Machine : Type 1} {𝓤 : Ura Machine} (𝓛 : Logic 𝓤)
+    → (at_mem : Memory → SProp 𝓤) (run : Routine → Fun 𝓤) (𝓣 : Tables 𝓤 𝓛.H)
     → Meets 𝓛 it.signature (WpFn 𝓤 𝓛.H 𝓣.C 𝓣.Λ code.function) (it.spec 𝓛 at_mem run)
 meets {𝓤 = 𝓤} 𝓛 at_mem run 𝓣 =
     walk_Meets 𝓛 it.ended stayed (goes 𝓛 at_mem run) (it.clauses 𝓛 at_mem run)
-    (WpFn 𝓤 𝓛.H 𝓣.C 𝓣.Λ code.function) (WpFn-mono 𝓤 𝓛.H 𝓛.laws 𝓣 code.function) (walks 𝓛 at_mem run 𝓣.C 𝓣.Λ)
+    (WpFn 𝓤 𝓛.H 𝓣.C 𝓣.Λ code.function) (WpFn-mono 𝓤 𝓛.H 𝓛.laws 𝓣 code.function)
+    (walks 𝓛 at_mem run 𝓣.C 𝓣.Λ)
 
 pub note_spec : {Machine : Type 1} → stated.statement Machine
 unfolding tables_of
 note_spec 𝓤 𝓛 𝓜 𝓡 wired =
     entered 𝓤 𝓛.H (triple_of 𝓛 it.signature (it.spec 𝓛 𝓜.mem 𝓡.returns))
-    (tables 𝓤 𝓛.H 𝓜 𝓡 𝓡.env).C (tables 𝓤 𝓛.H 𝓜 𝓡 𝓡.env).Λ #it code.function (code.unfolded 𝓤 𝓛.H 𝓜 𝓡 wired)
+    (tables 𝓤 𝓛.H 𝓜 𝓡 𝓡.env).C (tables 𝓤 𝓛.H 𝓜 𝓡 𝓡.env).Λ #it code.function
+    (code.unfolded 𝓤 𝓛.H 𝓜 𝓡 wired)
     (meets 𝓛 𝓜.mem 𝓡.returns (tables_of 𝓤 𝓛.H 𝓜 (tables 𝓤 𝓛.H 𝓜 𝓡 𝓡.env)))
