@@ -1,6 +1,7 @@
 pub mod Again
 pub mod Drafts
 pub mod Faults
+pub mod Kept
 pub mod Mnemonics
 pub mod Names
 pub mod Operations

@@ -5,23 +5,29 @@ ghost use Rattle.std.specs.BTreeMap.{insert_entry};
 ghost use Rattle.bk_asm.specs.Reading.{place_of};
 
 use std::alloc::{AllocError, Global};
-use std::collections::BTreeMap;
+use std::collections::HashMap;
 use std::marker::Model;
 
 /// The labels of a text, each with the place of its instruction. Contracts see them in the order of
 /// their names.
+///
+/// The map goes by hashes: a text of 16 MiB may have millions of labels, in any order, and for each a
+/// tree compares names that lie all over the text. The hash has a fixed seed, so a text can be made
+/// whose labels collide, which takes very long. That is borne: the answer is the same, and a run reads
+/// one text, so that none but the one who gave it waits, and can stop the run.
 #[derive(Drop)]
 pub(crate) struct Labels<'a> {
-    places: BTreeMap<&'a [u8], u32>,
+    places: HashMap<&'a [u8], u32>,
 }
 
 impl<'a> Model for Labels<'a> {
     ghost use Rattle.std.specs.Prelude.{List, map};
     ghost use Rattle.bk_asm.specs.Names.{Naming};
+    ghost use Rattle.bk_asm.specs.Kept.{in_order};
 
     ghost Value = { List Naming };
 
-    ghost view = { λ l. map (λ e. (e.0.now, e.1)) l.places.entries };
+    ghost view = { λ l. in_order (map (λ e. (e.0.now, e.1)) l.places.entries) };
 }
 
 impl<'a> Labels<'a> {
@@ -30,7 +36,7 @@ impl<'a> Labels<'a> {
         ensures { result ≡ [] }
     {
         Labels {
-            places: BTreeMap::new(alloc),
+            places: HashMap::new(alloc),
         }
     }
 
@@ -38,7 +44,7 @@ impl<'a> Labels<'a> {
     pub fn place_of(&self, name: &'a [u8]) -> Option<u32>
         ensures { result ≡ place_of self.now name.now }
     {
-        self.places.get(&name).copied()
+        self.places.get(name).copied()
     }
 
     /// One more label.

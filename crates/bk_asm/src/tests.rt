@@ -165,6 +165,25 @@ fn at_most_256_instructions(rt: HostRuntime) -> Result<(), Fail> {
     Ok(())
 }
 
+/// Labels enough that the map of them grows several times. None is lost, and none is found that isn't there.
+#[test]
+fn a_thousand_labels(rt: HostRuntime) -> Result<(), Fail> {
+    let mut text = String::new(rt.alloc());
+    for number in 0..1000_u32 {
+        write!(text, "l{}:\n", number * 377 % 1000)?;
+    }
+    write!(text, "nop\nx: bi l0\nbi l999\nbi x\n")?;
+    assert!(rt;
+        digits_of(&rt, text.as_str())?.as_str()
+            == "0000000000000000000000000000002000000000000000200100000000000020"
+    );
+    write!(text, "bi l1000\n")?;
+    assert_eq!(rt; fault_of(&rt, text.as_bytes()), Some([1005, 4, 26]));
+    write!(text, "l500:\n")?;
+    assert_eq!(rt; fault_of(&rt, text.as_bytes()), Some([1006, 1, 25]));
+    Ok(())
+}
+
 /// The bytes of the image of a text are those of the image of its canonical text, which is this one.
 fn canonical(rt: &HostRuntime, text: &str, canonical: &str) -> Result<bool, Fail> {
     let image = assemble(rt.alloc(), text.as_bytes())?;
