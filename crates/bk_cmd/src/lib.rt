@@ -18,7 +18,11 @@ pub use outcome::{
 pub use run::run_plain;
 
 #[cfg(test)]
+mod damaged;
+#[cfg(test)]
 mod events;
+#[cfg(test)]
+mod failing;
 #[cfg(test)]
 mod programs;
 #[cfg(test)]

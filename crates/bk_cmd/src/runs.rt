@@ -11,7 +11,7 @@ use bk_engine::Choice;
 use bk_image::{read_image, write_image};
 use bk_lce::{Victim, WayView, oldest, pinned};
 use bk_outer::MemSink;
-use bk_run::{RunEnd, budget, log, report, serial, serial_report};
+use bk_run::{RunEnd, SerialFault, budget, log, report, serial, serial_report};
 use bk_sound::certify;
 use bk_system::Event;
 use bk_trace::read_trace;
@@ -112,6 +112,22 @@ end rested
     let stuck = end_of(alloc, &NOP, "config 1 1 1".as_bytes())?;
     assert!(rt; !stuck.complete);
     assert_eq!(rt; stuck.events.len(), 1);
+    Ok(())
+}
+
+#[test]
+fn a_loop_uses_its_budget_up(rt: HostRuntime) -> Result<(), Fail> {
+    let alloc = rt.alloc();
+    // The opcode is the highest byte of the word: `bi` to 0 in place of `nop`.
+    let mut image = NOP;
+    image[23] = 0x20;
+    let image = read_image(alloc, &image)?;
+    let trace = read_trace(alloc, "config 1 1 1".as_bytes())?;
+    let victim = Victim::store(|views: &[WayView]| oldest(views));
+    match serial(alloc, &image, &trace, &victim, 1) {
+        Err(SerialFault::Spent(end)) => assert_eq!(rt; end.events.len(), 1),
+        _ => return Err(Fail::from("the run has an end")),
+    }
     Ok(())
 }
 

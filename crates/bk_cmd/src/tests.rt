@@ -11,11 +11,11 @@ pub(crate) const NOP: [u8; 24] = [
     0x00, 0x00, 0x00, 0x00, 0x00, 0x00, 0x00, 0x00,
 ];
 
-// A store past the cache, and a load of the same word by another cache.
-const TWO_OPERATIONS: &str = "config 2 4 2\n0 US 0x40 7\n1 UL 0x40\n";
+/// A store past the cache, and a load of the same word by another cache.
+pub(crate) const TWO_OPERATIONS: &str = "config 2 4 2\n0 US 0x40 7\n1 UL 0x40\n";
 
 /// Their report under `mesi`: the second request finds its group pending, and is deferred.
-const TWO_OPERATIONS_REPORT: &str = "\
+pub(crate) const TWO_OPERATIONS_REPORT: &str = "\
 0 US 0x40 7
 1 UL 0x40 = 7
 events issue 2 command 2 fill 0 memory 2 engine 47
@@ -31,7 +31,8 @@ I 1 UL 0x40 0
 m 0301f000000000004000000000000000
 ";
 
-const EMPTY_REPORT: &str = "\
+/// The report of a trace without operations.
+pub(crate) const EMPTY_REPORT: &str = "\
 events issue 0 command 0 fill 0 memory 0 engine 0
 messages request 0 command 0 fill 0 response 0 memout 0 memin 0
 end rested
@@ -192,24 +193,6 @@ fn no_operation(rt: HostRuntime) -> Result<(), Fail> {
 }
 
 #[test]
-fn a_write_that_fails(rt: HostRuntime) -> Result<(), Fail> {
-    let alloc = rt.alloc();
-    let mut shelf = shelf(
-        alloc,
-        &image_named(alloc, "mesi")?,
-        TWO_OPERATIONS,
-        Vec::new(alloc),
-    )?;
-    let mut sink = MemSink::make(alloc, 50, vec![in alloc; 3]?);
-    let outcome = asked(alloc, &words(alloc)?, &mut shelf, &mut sink);
-    assert_eq!(rt; numbers(&outcome), [WRITE_FAULT as u64, 0, 0, 0, 0, 100]);
-    assert_eq!(rt; outcome.events.len(), 53);
-    assert!(rt; sink.bytes() == &TWO_OPERATIONS_REPORT.as_bytes()[..100]);
-    assert!(rt; fault_line(&outcome).as_str() == "bedrock: write fault");
-    Ok(())
-}
-
-#[test]
 fn a_drawn_trace(rt: HostRuntime) -> Result<(), Fail> {
     let alloc = rt.alloc();
     let mut shelf = shelf(alloc, &NOP, "", Vec::new(alloc))?;
@@ -277,22 +260,6 @@ fn a_reserved_field(rt: HostRuntime) -> Result<(), Fail> {
     let outcome = asked(alloc, &words(alloc)?, &mut shelf, &mut sink);
     assert_eq!(rt; numbers(&outcome), [MALFORMED as u64, 1, 16, 0, 8, 0]);
     assert!(rt; fault_line(&outcome).as_str() == "bedrock: malformed file 1 at 16:0 kind 8");
-    Ok(())
-}
-
-#[test]
-fn a_read_that_fails(rt: HostRuntime) -> Result<(), Fail> {
-    let alloc = rt.alloc();
-    let mut shelf = shelf(
-        alloc,
-        &image_named(alloc, "mesi")?,
-        TWO_OPERATIONS,
-        vec![in alloc; 2]?,
-    )?;
-    let mut sink = sink(alloc);
-    let outcome = asked(alloc, &words(alloc)?, &mut shelf, &mut sink);
-    assert_eq!(rt; numbers(&outcome), [READ_FAULT as u64, 2, 0, 0, 0, 0]);
-    assert!(rt; fault_line(&outcome).as_str() == "bedrock: read fault file 2");
     Ok(())
 }
 

@@ -5,6 +5,7 @@ use super::*;
 use crate::programs::image_named;
 use bk_check::Refusal;
 use bk_outer::MemSink;
+use bk_proto::mutants;
 use std::alloc::Global;
 use std::test::Fail;
 
@@ -20,7 +21,7 @@ fn accepted_programs(rt: HostRuntime) -> Result<(), Fail> {
 }
 
 /// The image with another word at a place.
-fn with_word(alloc: Global, image: &[u8], place: u8, word: u64) -> Result<Vec<u8>, Fail> {
+fn with_word(alloc: Global, image: &[u8], place: u32, word: u64) -> Result<Vec<u8>, Fail> {
     let mut bytes = image.to_vec(alloc)?;
     for (byte, value) in bytes
         .iter_mut()
@@ -50,6 +51,23 @@ fn refused_programs(rt: HostRuntime) -> Result<(), Fail> {
         let (outcome, sink) = verified(rt.alloc(), &changed)?;
         assert_eq!(rt; numbers(&outcome), [REFUSED as u64, 0, 0, 0, 0, 0]);
         assert_eq!(rt; outcome.refusal, Some(Refusal { at, obligation }));
+        assert_eq!(rt; sink.bytes().len(), 0);
+    }
+    Ok(())
+}
+
+#[test]
+fn mutants_are_refused(rt: HostRuntime) -> Result<(), Fail> {
+    for mutant in mutants() {
+        let image = image_named(rt.alloc(), mutant.name)?;
+        let changed = with_word(rt.alloc(), &image, mutant.place, mutant.word)?;
+        let (outcome, sink) = verified(rt.alloc(), &changed)?;
+        assert_eq!(rt;
+            numbers(&outcome),
+            [REFUSED as u64, 0, 0, 0, 0, 0],
+            "{mutant:?}"
+        );
+        assert_eq!(rt; outcome.refusal, Some(mutant.refusal), "{mutant:?}");
         assert_eq!(rt; sink.bytes().len(), 0);
     }
     Ok(())

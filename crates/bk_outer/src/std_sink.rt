@@ -91,13 +91,17 @@ impl<'a, R: Print> Sink for StdSink<'a, R> {
 #[cfg(test)]
 mod tests {
     use super::*;
+    use std::cell::Cell;
     use std::fmt::Display;
     use std::io;
     use std::test::Fail;
 
-    /// An output that takes so many bytes of each write.
+    /// An output that takes so many bytes of each write, after so many writes that a signal interrupts.
     #[derive(Drop)]
-    struct Narrow(usize);
+    struct Narrow {
+        width: usize,
+        interrupts: Cell<u32>,
+    }
 
     impl Print for Narrow {
         fn print<D: Display + Drop>(&self, _value: D) -> io::Result<()> {
@@ -113,13 +117,22 @@ mod tests {
         }
 
         fn write_some(&self, bytes: &[u8]) -> io::Result<usize> {
-            Ok(bytes.len().min(self.0))
+            match self.interrupts.get() {
+                0 => Ok(bytes.len().min(self.width)),
+                left => {
+                    self.interrupts.set(left - 1);
+                    Err(io::Error::from(ErrorKind::Interrupted))
+                }
+            }
         }
     }
 
     #[test]
     fn takes_what_the_output_takes(rt: HostRuntime) -> Result<(), Fail> {
-        let narrow = Narrow(2);
+        let narrow = Narrow {
+            width: 2,
+            interrupts: Cell::new(0),
+        };
         let mut sink = StdSink::make(&narrow);
         assert_eq!(rt; sink.write(b"abc")?, 2);
         assert_eq!(rt; sink.faults, 0);
@@ -128,9 +141,32 @@ mod tests {
 
     #[test]
     fn none_taken_is_a_failure(rt: HostRuntime) {
-        let shut = Narrow(0);
+        let shut = Narrow {
+            width: 0,
+            interrupts: Cell::new(0),
+        };
         let mut sink = StdSink::make(&shut);
         assert!(rt; sink.write(b"abc") == Err(WriteAnswer::Failed));
         assert_eq!(rt; sink.faults, 1);
+    }
+
+    #[test]
+    fn an_interrupted_write_is_tried_again(rt: HostRuntime) {
+        // How many writes are interrupted, what the sink answers, and how many faults it has counted.
+        let cases = [
+            (3, Ok(2), 0),
+            (999_999, Ok(2), 0),
+            (1_000_000, Err(WriteAnswer::Failed), 1),
+        ];
+        for (interrupts, answer, faults) in cases {
+            let busy = Narrow {
+                width: 2,
+                interrupts: Cell::new(interrupts),
+            };
+            let mut sink = StdSink::make(&busy);
+            assert!(rt; sink.write(b"abc") == answer, "{interrupts}");
+            assert_eq!(rt; sink.faults, faults);
+            assert_eq!(rt; busy.interrupts.get(), 0);
+        }
     }
 }
