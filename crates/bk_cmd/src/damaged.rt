@@ -11,9 +11,9 @@ use std::test::Fail;
 /// Two caches that share a word: `data/share.trace` of the program.
 const SHARED: &str = "config 2 4 2\n0 L 0x0\n0 S 0x0 5\n1 L 0x0\n";
 
-/// The reports of its first operations under `mesi`: none, one, two, or all three. The load is served in 17 instructions, from place 0 back
-/// to it, and its CohAck taken in 4. The store finds the block in E. Where another load waits, it is deferred in 4 and the CohAck is taken
-/// in 3. Then it needs 10 up to the write-back, 6 to take that, and 11 and 4 as the first load.
+/// The reports of its first operations under `mesi`: none, one, two, or all three. The load is served in 17 instructions, from place 0
+/// back to it, and its CohAck taken in 4. The store finds the block in E. Where the other load waits, it is deferred in 4 and the CohAck
+/// taken in 3. Then it takes 11 to ask for the write-back, 6 to take it, 11 to send the block on, and 4 for its own CohAck.
 const REPORTS: [&str; 4] = [
     EMPTY_REPORT,
     "\
@@ -182,7 +182,7 @@ fn images_that_are_cut(rt: HostRuntime) -> Result<(), Fail> {
     Ok(())
 }
 
-// A file may have 16,777,216 bytes: it is read, and has a fault at its first byte, a zero.
+// A file may have 16,777,216 bytes: it is read, and here has a fault at its first byte, a zero.
 #[test]
 fn the_largest_files(rt: HostRuntime) -> Result<(), Fail> {
     let alloc = rt.alloc();
@@ -200,29 +200,26 @@ fn the_largest_files(rt: HostRuntime) -> Result<(), Fail> {
         Vec::from_elem(alloc, 0, 16_777_217)?,
     ))?;
     let mut shelf = MemShelf::make(alloc, files, Vec::new(alloc));
-    // Words, the status and the file, and the place, the column and the kind.
+    let bad = MALFORMED as u64;
+    let too_long = TOO_LONG as u64;
+    // Words, and what is answered: status, file, place, column, kind, and how much is written.
     let cases = [
-        (&["verify", "large"][..], [MALFORMED as u64, 1, 0, 0, 1, 0]),
-        (&["dis", "large"][..], [MALFORMED as u64, 1, 0, 0, 1, 0]),
-        (&["asm", "large"][..], [MALFORMED as u64, 1, 1, 1, 20, 0]),
+        (&["verify", "large"][..], [bad, 1, 0, 0, 1, 0]),
+        (&["asm", "large"], [bad, 1, 1, 1, 20, 0]),
         (
-            &["replay", "serial", "large", "mesi"][..],
-            [MALFORMED as u64, 1, 0, 0, 1, 0],
+            &["replay", "serial", "mesi", "large"],
+            [bad, 2, 1, 1, 40, 0],
+        ),
+        (&["verify", "larger"], [too_long, 1, 0, 0, 0, 0]),
+        (&["dis", "larger"], [too_long, 1, 0, 0, 0, 0]),
+        (&["asm", "larger"], [too_long, 1, 0, 0, 0, 0]),
+        (
+            &["replay", "serial", "larger", "mesi"],
+            [too_long, 1, 0, 0, 0, 0],
         ),
         (
-            &["replay", "serial", "mesi", "large"][..],
-            [MALFORMED as u64, 2, 1, 1, 40, 0],
-        ),
-        (&["verify", "larger"][..], [TOO_LONG as u64, 1, 0, 0, 0, 0]),
-        (&["dis", "larger"][..], [TOO_LONG as u64, 1, 0, 0, 0, 0]),
-        (&["asm", "larger"][..], [TOO_LONG as u64, 1, 0, 0, 0, 0]),
-        (
-            &["replay", "serial", "larger", "mesi"][..],
-            [TOO_LONG as u64, 1, 0, 0, 0, 0],
-        ),
-        (
-            &["replay", "serial", "mesi", "larger"][..],
-            [TOO_LONG as u64, 2, 0, 0, 0, 0],
+            &["replay", "serial", "mesi", "larger"],
+            [too_long, 2, 0, 0, 0, 0],
         ),
     ];
     for (words, answer) in cases {
