@@ -1,4 +1,5 @@
-//! The rule of a channel's queue, and what each end of the channel knows. All of it stands in contracts alone and takes no memory.
+//! The rule of a channel's queue, and what each end of the channel knows. But for the queue itself, all of it is for proofs alone and
+//! takes no memory.
 ghost use Rattle.std.specs.Prelude.{◌≡◌, ⊤, List, ◌++◌};
 ghost use Rattle.bk_msg.specs.declared.codec.Packet.{Packet};
 ghost use Rattle.bk_net.specs.Rule.{having_sent, having_taken, IsNext};
