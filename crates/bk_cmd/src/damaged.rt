@@ -191,10 +191,10 @@ fn the_largest_files(rt: HostRuntime) -> Result<(), Fail> {
         String::from_str(alloc, "mesi")?,
         image_named(alloc, "mesi")?,
     ))?;
-    files.push((
-        String::from_str(alloc, "large")?,
-        Vec::from_elem(alloc, 0, 16_777_216)?,
-    ))?;
+    let mut large = Vec::from_elem(alloc, 0, 16_777_216)?;
+    // The line of the fault is a short one.
+    *large.get_mut(1).ok_or("a second byte")? = b'\n';
+    files.push((String::from_str(alloc, "large")?, large))?;
     files.push((
         String::from_str(alloc, "larger")?,
         Vec::from_elem(alloc, 0, 16_777_217)?,
