@@ -1,0 +1,4 @@
+pub mod Parts
+pub mod Channels
+pub mod Local
+pub mod Laws

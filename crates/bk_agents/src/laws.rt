@@ -1,0 +1,18 @@
+//! Laws over definitions alone: each function is empty, and its contract is the law.
+
+ghost use Rattle.bk_agents.specs.Laws.{RowsAreLocal, PartsStay, ChannelsGrow, OneHeadCounts, TouchesItsOwn, SendsFromItself};
+
+/// Each event of the system is its agent's own. Its row is the local row of the agent's part and the channels' heads, put back into the
+/// system: it changes that part and no other, takes at most one head off, and appends what it sends.
+pub fn rows()
+    ensures local { RowsAreLocal }
+    ensures parts { PartsStay }
+    ensures channels { ChannelsGrow }
+{}
+
+/// A local row looks at no head but that of the channel it touches, which ends at its agent. What it sends begins there.
+pub fn channels()
+    ensures heads { OneHeadCounts }
+    ensures ends { TouchesItsOwn }
+    ensures begins { SendsFromItself }
+{}
