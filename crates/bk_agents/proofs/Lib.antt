@@ -14,3 +14,4 @@ pub mod SomeRow
 pub mod Touched
 pub mod Heads
 pub mod Ends
+pub mod Tight

@@ -1,5 +1,5 @@
 -- What holds of local rows.
-use Rattle.std.specs.Prelude.{◌≡◌, ℕ, List, Option, Some, option_map, All}
+use Rattle.std.specs.Prelude.{◌≡◌, ◌↔◌, ℕ, List, Option, Some, option_map, All}
 use Rattle.bk_base.specs.Places.{Shape}
 use Rattle.bk_base.specs.Tables.{put}
 use Rattle.bk_isa.specs.declared.form.Form.{Form}
@@ -7,9 +7,11 @@ use Rattle.bk_msg.specs.declared.row.Row.{Row}
 use Rattle.bk_system.specs.declared.event.Event.{Event}
 use Rattle.bk_system.specs.State.{State}
 use Rattle.bk_system.specs.Events.{row}
+use Rattle.bk_system.specs.Runs.{IsTightFrom}
 use Rattle.bk_agents.specs.Parts.{Part, part_of, agent_of}
 use Rattle.bk_agents.specs.Channels.{Channel, channel_of, channel_for, heads_of, begins_at, ends_at}
 use Rattle.bk_agents.specs.Local.{Local, local_row, channel_after, widened}
+use Rattle.bk_agents.specs.Walks.{Walks}
 
 -- an event's row is the local row of its agent, in the system
 abbrev pub RowsAreLocal : Type 0
@@ -26,7 +28,12 @@ PartsStay = (k : Shape) (program : List Form) (s : State) (event : Event) (local
 -- each channel is what was left in it, and then what was sent on it
 abbrev pub ChannelsGrow : Type 0
 ChannelsGrow = (s : State) (n : ℕ) (local : Local) (channel : Channel)
-    → channel_of (widened s n local).state channel ≡ channel_after s n local channel
+    → channel_of (widened s n local).state channel ≡ channel_after (channel_of s) n local channel
+
+-- a list of events is tight exactly where each has a local row, by the parts and the channels that those before it leave
+abbrev pub WalksAreTight : Type 0
+WalksAreTight = (k : Shape) (program : List Form) (s : State) (events : List Event)
+    → Walks k program (part_of k s) (channel_of s) events ↔ IsTightFrom k program s events
 
 -- it looks at the head of the channel that it touches alone: with the same one, and any others, its local row is the same
 abbrev pub OneHeadCounts : Type 0

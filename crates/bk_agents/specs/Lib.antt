@@ -1,4 +1,5 @@
 pub mod Parts
 pub mod Channels
 pub mod Local
+pub mod Walks
 pub mod Laws

@@ -137,8 +137,9 @@ abbrev pub sent_on : ℕ → Channel → List Row → List Row
 sent_on n channel [] = []
 sent_on n channel (m ∷ ms) = if is_same (channel_for n m) channel then m ∷ sent_on n channel ms else sent_on n channel ms
 
-abbrev pub channel_after : State → ℕ → Local → Channel → List Row
-channel_after s n local channel = left_in local channel (channel_of s channel) ++ sent_on n channel local.sent
+-- a channel after it, by what all channels had
+abbrev pub channel_after : (Channel → List Row) → ℕ → Local → Channel → List Row
+channel_after contents n local channel = left_in local channel (contents channel) ++ sent_on n channel local.sent
 
 abbrev pub with_part : State → ℕ → Part → State
 with_part s n (CachePart cache completed) = record s { caches = put s.caches n cache }
@@ -149,12 +150,12 @@ with_part s n NoPart = s
 abbrev pub widened : State → ℕ → Local → Happening
 widened s n local = record {
   state = record (with_part s n local.part) {
-    request = λ from. channel_after s n local (channels.Request from);
-    command = λ to. channel_after s n local (channels.Command to);
-    response = λ from. channel_after s n local (channels.Response from);
-    fill = λ to from. channel_after s n local (channels.Fill to from);
-    memout = channel_after s n local channels.Memout;
-    memin = channel_after s n local channels.Memin;
+    request = λ from. channel_after (channel_of s) n local (channels.Request from);
+    command = λ to. channel_after (channel_of s) n local (channels.Command to);
+    response = λ from. channel_after (channel_of s) n local (channels.Response from);
+    fill = λ to from. channel_after (channel_of s) n local (channels.Fill to from);
+    memout = channel_after (channel_of s) n local channels.Memout;
+    memin = channel_after (channel_of s) n local channels.Memin;
     history = s.history ++ option_to_list local.done;
     taken = s.taken ++ local.taken;
     settled = s.settled ++ local.settled;
