@@ -54,14 +54,14 @@ offered-at None heads others same = refl
 offered-at (Some channel) heads others same = same channel refl
 
 -- `wfq` takes no head off
-wait-pops : (k : Shape) (engine : EngineState) (form : Option Form) (choice : Choice) (message : Option Row) → is_wait form ≡ true
+pub wait-pops : (k : Shape) (engine : EngineState) (form : Option Form) (choice : Choice) (message : Option Row) → is_wait form ≡ true
     → (ran_at k engine form choice message).popped ≡ None
 wait-pops k engine None choice message w = absurd cc
 wait-pops k engine (Some (Wfq classes)) choice message w = refl
 wait-pops k engine (Some f) choice message w = absurd cc
 
 -- at another instruction the choice offers no channel
-no-class : (choice : Choice) → (eqb choice.class 0 && eqb choice.source 0) ≡ true → offered_channel choice ≡ None
+pub no-class : (choice : Choice) → (eqb choice.class 0 && eqb choice.source 0) ≡ true → offered_channel choice ≡ None
 no-class choice e =
     ap (λ (n : ℕ). cond (eqb n 1) (Some (channels.Response choice.source))
     (cond (eqb n 2) (cond (eqb choice.source 0) (Some channels.Memin) None)

@@ -15,3 +15,4 @@ pub mod Touched
 pub mod Heads
 pub mod Ends
 pub mod Tight
+pub mod HeadsThere

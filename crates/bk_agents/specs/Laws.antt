@@ -12,6 +12,7 @@ use Rattle.bk_agents.specs.Parts.{Part, part_of, agent_of}
 use Rattle.bk_agents.specs.Channels.{Channel, channel_of, channel_for, heads_of, begins_at, ends_at}
 use Rattle.bk_agents.specs.Local.{Local, local_row, channel_after, widened}
 use Rattle.bk_agents.specs.Walks.{Walks}
+use Rattle.bk_agents.specs.Held.{HoldsFirst}
 
 -- an event's row is the local row of its agent, in the system
 abbrev pub RowsAreLocal : Type 0
@@ -41,6 +42,13 @@ OneHeadCounts = (k : Shape) (program : List Form) (part : Part) (heads others : 
     → local_row k program part heads event ≡ Some local
     → ((channel : Channel) → local.touched ≡ Some channel → others channel ≡ heads channel)
     → local_row k program part others event ≡ Some local
+
+-- The channel that it touches has a head, where the head that its agent holds stands first in its channel. `popq` alone wants that: it takes
+-- off a head that an earlier `wfq` looked at.
+abbrev pub TouchesAHead : Type 0
+TouchesAHead = (k : Shape) (program : List Form) (part : Part) (heads : Channel → Option Row) (event : Event) (local : Local)
+    → local_row k program part heads event ≡ Some local → HoldsFirst part heads
+    → (channel : Channel) → local.touched ≡ Some channel → (m : Row) × (heads channel ≡ Some m)
 
 -- the channel that it touches ends at its agent
 abbrev pub TouchesItsOwn : Type 0
