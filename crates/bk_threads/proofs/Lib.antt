@@ -1,0 +1,5 @@
+pub mod Merges
+pub mod Orders
+pub mod Taking
+pub mod Running
+pub mod Walking

@@ -1,0 +1,56 @@
+-- What agents have done alone is a run of them all, where it is merged by stamps.
+use Rattle.std.specs.Prelude.{◌≡◌, ℕ, ◌≤◌, List, ◌++◌, All, AllPairs}
+use Rattle.bk_system.specs.declared.event.Event.{Event}
+use Rattle.bk_threads.specs.declared.merging.Journal.{Journal}
+use Rattle.bk_threads.specs.Journals.{entries_of, own, IsMerge}
+use Rattle.bk_threads.specs.Agents.{Step, Rules, Channels, IsLocal, sent_by, steps_of}
+use Rattle.bk_threads.specs.Walks.{WalksAlone, Walks, Runs, part_after, parts_after, streams_after, channels_after, AreByStamp, SendsItsStamp, SendNothingEarlier}
+
+-- MERGES
+
+-- there is one merge, and it hangs on what each agent's journal has, not on the order in which the journals stand
+abbrev pub OneMerge : Type 0
+OneMerge = (journals others : List Journal) (events more : List Event) → ((n : ℕ) → entries_of journals n ≡ entries_of others n)
+    → IsMerge journals events → IsMerge others more → events ≡ more
+
+-- where no stamp in an agent's journal is below one before it, the merge has the entries of that journal in their order
+abbrev pub JournalsStand : Type 0
+JournalsStand = (journals : List Journal) (events : List Event) (n : ℕ) → (merge : IsMerge journals events)
+    → AllPairs (λ entry later. entry.stamp ≤ later.stamp) (entries_of journals n) → own n merge.entries ≡ entries_of journals n
+
+-- RUNS
+
+module _ (Part Event Message : Type 0) where
+  -- A walk goes on as before where more stands behind its streams.
+  abbrev pub WalksGoOn : Type 0
+  WalksGoOn = (does : Rules Part Event Message) (receiver : ℕ → ℕ) (n : ℕ) (part : Part) (streams more : Channels Message) (steps : List (Step Part Event Message))
+      → IsLocal does → WalksAlone does receiver n part streams steps
+      → WalksAlone does receiver n part (λ channel. streams channel ++ more channel) steps
+      × ((channel : ℕ) → streams_after (λ other. streams other ++ more other) steps channel ≡ streams_after streams steps channel ++ more channel)
+
+  -- The walks of all agents are one walk, in any order that keeps each agent's own.
+  abbrev pub WalksJoin : Type 0
+  WalksJoin = (does : Rules Part Event Message) (receiver : ℕ → ℕ) (parts : ℕ → Part) (streams : Channels Message) (steps : List (Step Part Event Message))
+      → IsLocal does → ((n : ℕ) → WalksAlone does receiver n (parts n) streams (steps_of n steps)) → Walks does parts streams steps
+
+  -- By stamp, no step sends anything that is earlier than one before it.
+  abbrev pub StampsOrder : Type 0
+  StampsOrder = (steps : List (Step Part Event Message)) → AreByStamp steps → All SendsItsStamp steps → SendNothingEarlier steps
+
+  -- Where each channel holds the beginning of its stream and the steps send the rest, and perhaps more, a walk is a run: a step that looks at
+  -- a packet has a greater stamp, so that packet isn't among those still to be sent.
+  abbrev pub WalksRun : Type 0
+  WalksRun = (does : Rules Part Event Message) (parts : ℕ → Part) (channels streams beyond : Channels Message) (steps : List (Step Part Event Message))
+      → IsLocal does → Walks does parts streams steps → SendNothingEarlier steps
+      → ((channel : ℕ) → channels channel ++ sent_by steps channel ≡ streams channel ++ beyond channel) → Runs does parts channels steps
+
+  -- and then each channel holds what is left of its stream, and what was sent beyond it
+  abbrev pub ChannelsAfter : Type 0
+  ChannelsAfter = (does : Rules Part Event Message) (parts : ℕ → Part) (channels streams beyond : Channels Message) (steps : List (Step Part Event Message))
+      → Walks does parts streams steps → SendNothingEarlier steps
+      → ((channel : ℕ) → channels channel ++ sent_by steps channel ≡ streams channel ++ beyond channel)
+      → (channel : ℕ) → channels_after channels steps channel ≡ streams_after streams steps channel ++ beyond channel
+
+  -- Each agent's part after all steps is the one after its own.
+  abbrev pub PartsAfter : Type 0
+  PartsAfter = (parts : ℕ → Part) (steps : List (Step Part Event Message)) (n : ℕ) → parts_after parts steps n ≡ part_after (parts n) (steps_of n steps)

@@ -1,0 +1,4 @@
+pub mod Journals
+pub mod Agents
+pub mod Walks
+pub mod Laws

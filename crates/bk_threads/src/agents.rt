@@ -1,0 +1,22 @@
+ghost use Rattle.bk_threads.specs.Laws.{OneMerge, JournalsStand, WalksGoOn, WalksJoin, StampsOrder, WalksRun, ChannelsAfter, PartsAfter};
+
+/// Journals have one merge, whatever the order in which they stand. Where no stamp in an agent's journal is below one before it, the merge
+/// has that journal's entries in their order.
+pub fn merge_laws()
+    ensures one { OneMerge }
+    ensures stand { JournalsStand }
+{}
+
+/// Agents take packets from channels and send others, each with a part of its own. Where each has made its steps alone, on the packets that
+/// its channels brought it in all, and each step that looks at a packet has a greater stamp than that packet, the steps of all by stamp are
+/// a run of them all: each was enabled where it stands, and each channel holds what it should.
+///
+/// Of what types parts, events and messages are, nothing is asked.
+pub fn walk_laws<Part, Event, Message>()
+    ensures go_on { WalksGoOn Part Event Message }
+    ensures join { WalksJoin Part Event Message }
+    ensures order { StampsOrder Part Event Message }
+    ensures run { WalksRun Part Event Message }
+    ensures channels { ChannelsAfter Part Event Message }
+    ensures parts { PartsAfter Part Event Message }
+{}
