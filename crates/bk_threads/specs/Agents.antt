@@ -37,7 +37,8 @@ module _ {Part Event Message : Type 0} where
   -- what an event does hangs on no other head than the one at which it looks
   abbrev pub IsLocal : Rules Part Event Message → Type 0
   IsLocal does = (n : ℕ) (part : Part) (event : Event) (seen other : ℕ → Option (Packet Message)) (effect : Effect Part Message)
-      → does n part seen event ≡ Some effect → ((channel : ℕ) → effect.looked ≡ Some channel → other channel ≡ seen channel) → does n part other event ≡ Some effect
+      → does n part seen event ≡ Some effect → ((channel : ℕ) → effect.looked ≡ Some channel
+      → other channel ≡ seen channel) → does n part other event ≡ Some effect
 
 abbrev pub is_at : Option ℕ → ℕ → Bool
 is_at None channel = false

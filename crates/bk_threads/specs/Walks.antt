@@ -6,11 +6,13 @@ module _ {Part Event Message : Type 0} where
   -- at the channel at which a step looks stands a packet with a lesser stamp
   abbrev pub Sees : Channels Message → Step Part Event Message → Type 0
   Sees streams step = (channel : ℕ) → step.effect.looked ≡ Some channel
-      → (packet : Packet Message) × (rest : List (Packet Message)) × (streams channel ≡ packet ∷ rest) × (packet.stamp < step.stamp)
+      → (packet : Packet Message) × (rest : List (Packet Message)) × (streams channel ≡ packet ∷ rest) ×
+      (packet.stamp < step.stamp)
 
   -- The steps of agent n, from its part on. A stream is all that its channel brings the agent while it walks, and `receiver` is the agent
   -- to which a channel leads: no other looks at it.
-  abbrev pub WalksAlone : Rules Part Event Message → (ℕ → ℕ) → ℕ → Part → Channels Message → List (Step Part Event Message) → Type 0
+  abbrev pub WalksAlone : Rules Part Event Message → (ℕ → ℕ) → ℕ → Part → Channels Message
+      → List (Step Part Event Message) → Type 0
   WalksAlone does receiver n part streams [] = Unit {0}
   WalksAlone does receiver n part streams (step ∷ steps) = (does n part (heads streams) step.event ≡ Some step.effect)
       × Sees streams step
@@ -61,4 +63,5 @@ module _ {Part Event Message : Type 0} where
   -- what a step and those behind it send has at least its stamp
   abbrev pub SendNothingEarlier : List (Step Part Event Message) → Type 0
   SendNothingEarlier [] = Unit {0}
-  SendNothingEarlier (step ∷ steps) = ((channel : ℕ) → All (λ packet. step.stamp ≤ packet.stamp) (sent_by (step ∷ steps) channel)) × SendNothingEarlier steps
+  SendNothingEarlier (step ∷ steps) = ((channel : ℕ)
+      → All (λ packet. step.stamp ≤ packet.stamp) (sent_by (step ∷ steps) channel)) × SendNothingEarlier steps

@@ -15,6 +15,7 @@ returns c =
     let merged : IsMerge journals (map event_of entries) =
     is_merge journals entries c.requires (subst (λ all. IsPermutation all entries) c.in_ok-entries.ensures sort.permutation)
     (sort.sorted key (answers_always _ _ _ (λ f a r g h. search rules)))
-    (subst (λ all. IsStableByKey key by_both all entries) c.in_ok-entries.ensures (sort.stable key (answers_always _ _ _ (λ f a r g h. search rules)))) in
+    (subst (λ all. IsStableByKey key by_both all entries) c.in_ok-entries.ensures (sort.stable key (answers_always _ _ _
+    (λ f a r g h. search rules)))) in
     IfOk-weaker c.events_of.result (λ events. events.items ≡ map event_of c.deref.result.now) (λ events. IsMerge journals events.items)
     (λ events same. subst (IsMerge journals) (sym (same ∙ ap (map event_of) c.deref.ensures.value)) merged) c.events_of.ensures
