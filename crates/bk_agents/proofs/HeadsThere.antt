@@ -72,7 +72,7 @@ waits-for (Some head) classes choice message e = absurd cc
 waits-for None classes choice None e = absurd cc
 waits-for None classes choice (Some m) e = (m, refl)
 
-wait-message : (k : Shape) (engine : EngineState) (form : Option Form) (choice : Choice) (message : Option Row) → is_wait form ≡ true
+pub wait-message : (k : Shape) (engine : EngineState) (form : Option Form) (choice : Choice) (message : Option Row) → is_wait form ≡ true
     → is_none (stop_at k engine form choice message) ≡ true → (m : Row) × (message ≡ Some m)
 wait-message k engine None choice message w e = absurd cc
 wait-message k engine (Some (Wfq classes)) choice message w e = waits-for engine.core.head classes choice message e

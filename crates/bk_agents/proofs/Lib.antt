@@ -16,3 +16,5 @@ pub mod Heads
 pub mod Ends
 pub mod Tight
 pub mod HeadsThere
+pub mod CoreHeads
+pub mod HeadsHeld

@@ -1,5 +1,5 @@
 -- What holds of local rows.
-use Rattle.std.specs.Prelude.{◌≡◌, ◌↔◌, ℕ, List, Option, Some, option_map, All}
+use Rattle.std.specs.Prelude.{◌≡◌, ◌↔◌, ℕ, false, ◌&&◌, List, Option, Some, option_map, All}
 use Rattle.bk_base.specs.Places.{Shape}
 use Rattle.bk_base.specs.Tables.{put}
 use Rattle.bk_isa.specs.declared.form.Form.{Form}
@@ -10,7 +10,7 @@ use Rattle.bk_system.specs.Events.{row}
 use Rattle.bk_system.specs.Runs.{IsTightFrom}
 use Rattle.bk_agents.specs.Parts.{Part, part_of, agent_of}
 use Rattle.bk_agents.specs.Channels.{Channel, channel_of, channel_for, heads_of, begins_at, ends_at}
-use Rattle.bk_agents.specs.Local.{Local, local_row, channel_after, widened}
+use Rattle.bk_agents.specs.Local.{Local, local_row, is_touched, channel_after, widened}
 use Rattle.bk_agents.specs.Walks.{Walks}
 use Rattle.bk_agents.specs.Held.{HoldsFirst}
 
@@ -43,12 +43,20 @@ OneHeadCounts = (k : Shape) (program : List Form) (part : Part) (heads others : 
     → ((channel : Channel) → local.touched ≡ Some channel → others channel ≡ heads channel)
     → local_row k program part others event ≡ Some local
 
--- The channel that it touches has a head, where the head that its agent holds stands first in its channel. `popq` alone wants that: it takes
--- off a head that an earlier `wfq` looked at.
+-- The channel that it touches has a head, where the head that its agent holds stands first in its channel. `popq` alone wants that: it
+-- takes off a head that an earlier `wfq` looked at.
 abbrev pub TouchesAHead : Type 0
 TouchesAHead = (k : Shape) (program : List Form) (part : Part) (heads : Channel → Option Row) (event : Event) (local : Local)
     → local_row k program part heads event ≡ Some local → HoldsFirst part heads
     → (channel : Channel) → local.touched ≡ Some channel → (m : Row) × (heads channel ≡ Some m)
+
+-- and what the agent then holds stands first too, at any later heads, where each head that it doesn't take off is still there
+abbrev pub HoldsOn : Type 0
+HoldsOn = (k : Shape) (program : List Form) (part : Part) (heads later : Channel → Option Row) (event : Event) (local : Local)
+    → local_row k program part heads event ≡ Some local → HoldsFirst part heads
+    → ((channel : Channel) (m : Row) → heads channel ≡ Some m → (local.pops && is_touched local.touched channel) ≡ false
+    → later channel ≡ Some m)
+    → HoldsFirst local.part later
 
 -- the channel that it touches ends at its agent
 abbrev pub TouchesItsOwn : Type 0
