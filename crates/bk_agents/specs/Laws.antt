@@ -36,7 +36,7 @@ abbrev pub WalksAreTight : Type 0
 WalksAreTight = (k : Shape) (program : List Form) (s : State) (events : List Event)
     → Walks k program (part_of k s) (channel_of s) events ↔ IsTightFrom k program s events
 
--- it looks at the head of the channel that it touches alone: with the same one, and any others, its local row is the same
+-- an event looks at the head of the channel that it touches alone: with the same one, and any others, its local row is the same
 abbrev pub OneHeadCounts : Type 0
 OneHeadCounts = (k : Shape) (program : List Form) (part : Part) (heads others : Channel → Option Row) (event : Event) (local : Local)
     → local_row k program part heads event ≡ Some local
