@@ -15,6 +15,7 @@ pub mod Touched
 pub mod Heads
 pub mod Ends
 pub mod Tight
+pub mod SameChannel
 pub mod HeadsThere
 pub mod CoreHeads
 pub mod HeadsHeld

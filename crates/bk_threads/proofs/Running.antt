@@ -4,7 +4,7 @@ use Rattle.std.specs.Prelude.{All, slice_get}
 use Rattle.std.specs.List.{AllByRecursion}
 use Rattle.std.proofs.lemmas.List.{append-nil}
 use Rattle.std.proofs.lemmas.List.Elements.{All-head, All-append, All-nil, All-from_recursion, recursion_from_All}
-use Rattle.bk_threads.specs.Agents.{Packet, Step, Channels, heads, is_at, after_taking, after_effect, with_part, sent_by}
+use Rattle.bk_threads.specs.Agents.{Packet, Step, Channels, TellsChannels, heads, is_at, after_taking, after_effect, with_part, sent_by}
 use Rattle.bk_threads.specs.Walks.{Sees, AreByStamp, SendsItsStamp, SendNothingEarlier}
 use Rattle.bk_threads.specs.Laws.{StampsOrder, WalksRun, ChannelsAfter}
 use Rattle.bk_threads.proofs.Orders.{pairs-head, pairs-tail, all_along}
@@ -13,12 +13,6 @@ use Rattle.bk_threads.proofs.Taking.{looks_there}
 module _ {Message : Type 0} where
   abbrev first : List (Packet Message) → Option (Packet Message)
   first packets = slice_get packets 0
-
-  -- a channel and its stream begin with one packet
-  abbrev BothBegin : Channels Message → Channels Message → ℕ → Type 0
-  BothBegin channels streams channel =
-      (packet : Packet Message) × (left rest : List (Packet Message)) × (channels channel ≡ packet ∷ left) ×
-      (streams channel ≡ packet ∷ rest)
 
   -- A channel and what is still to be sent there are a stream that begins with a packet, and what is beyond it. So the channel begins with
   -- that packet too, where all that is still to be sent is later.
@@ -46,15 +40,24 @@ module _ {Message : Type 0} where
   without_head held coming stream beyond packet left rest a b e = rw (a, b) (ap (drop 1) (ap (λ all. all ++ coming) (sym a) ∙ e
       ∙ ap (λ all. all ++ beyond) b))
 
-module _ {Part Event Message : Type 0} where
+module _ {Channel Message : Type 0} where
+  -- a channel and its stream begin with one packet
+  abbrev BothBegin : Channels Channel Message → Channels Channel Message → Channel → Type 0
+  BothBegin channels streams channel =
+      (packet : Packet Message) × (left rest : List (Packet Message)) × (channels channel ≡ packet ∷ left) ×
+      (streams channel ≡ packet ∷ rest)
+
+module _ {Channel Part Event Message : Type 0} where
   -- what each channel holds and what steps send there, against its stream and what is beyond it
-  abbrev Agrees : Channels Message → Channels Message → Channels Message → List (Step Part Event Message) → Type 0
-  Agrees channels streams beyond steps = (channel : ℕ) → channels channel ++ sent_by steps channel ≡ streams channel ++ beyond channel
+  abbrev Agrees : Channels Channel Message → Channels Channel Message → Channels Channel Message → List
+      (Step Channel Part Event Message) → Type 0
+  Agrees channels streams beyond steps = (channel : Channel) → channels channel ++ sent_by steps channel ≡ streams channel ++ beyond channel
 
   -- the channel at which the first step looks begins as its stream does
-  both_begin : (channels streams beyond : Channels Message) (step : Step Part Event Message) (steps : List (Step Part Event Message))
+  both_begin : (channels streams beyond : Channels Channel Message) (step : Step Channel Part Event Message)
+      (steps : List (Step Channel Part Event Message))
       → Agrees channels streams beyond (step ∷ steps)
-      → Sees streams step → SendNothingEarlier (step ∷ steps) → (channel : ℕ) → step.effect.looked ≡ Some channel
+      → Sees streams step → SendNothingEarlier (step ∷ steps) → (channel : Channel) → step.effect.looked ≡ Some channel
       → BothBegin channels streams channel
   both_begin channels streams beyond step steps agrees sees order channel at =
       let see = sees channel at in
@@ -63,13 +66,14 @@ module _ {Part Event Message : Type 0} where
       (see.0, held.0, see.1, held.1, see.2)
 
   -- after the first step they still agree
-  agrees_after : (channels streams beyond : Channels Message) (step : Step Part Event Message) (steps : List
-      (Step Part Event Message)) → Agrees channels streams beyond (step ∷ steps)
-      → ((channel : ℕ) → step.effect.looked ≡ Some channel → BothBegin channels streams channel)
-      → Agrees (after_effect step.effect channels) (after_taking step.effect streams) beyond steps
-  agrees_after channels streams beyond step steps agrees begins channel =
-      append_assoc (after_taking step.effect channels channel) (step.effect.sent channel) (sent_by steps channel)
-      ∙ whether step.effect.takes (is_at step.effect.looked channel) (looks_there step.effect.looked channel)
+  agrees_after : (is_same : Channel → Channel → Bool) → TellsChannels is_same → (channels streams beyond : Channels Channel Message)
+      (step : Step Channel Part Event Message) (steps : List
+      (Step Channel Part Event Message)) → Agrees channels streams beyond (step ∷ steps)
+      → ((channel : Channel) → step.effect.looked ≡ Some channel → BothBegin channels streams channel)
+      → Agrees (after_effect is_same step.effect channels) (after_taking is_same step.effect streams) beyond steps
+  agrees_after is_same tells channels streams beyond step steps agrees begins channel =
+      append_assoc (after_taking is_same step.effect channels channel) (step.effect.sent channel) (sent_by steps channel)
+      ∙ whether step.effect.takes (is_at is_same step.effect.looked channel) (looks_there is_same tells step.effect.looked channel)
     where
       coming : List (Packet Message)
       coming = sent_by (step ∷ steps) channel
@@ -84,29 +88,31 @@ module _ {Part Event Message : Type 0} where
           without_head (channels channel) (sent_by (step ∷ steps) channel) (streams channel) (beyond channel) b.0 b.1 b.2 b.3 b.4
           (agrees channel)
 
-  pub walks_run : WalksRun Part Event Message
-  walks_run does parts channels streams beyond [] local walks order agrees = tt
-  walks_run does parts channels streams beyond (step ∷ steps) local walks order agrees =
+  pub walks_run : WalksRun Channel Part Event Message
+  walks_run is_same does parts channels streams beyond [] tells local walks order agrees = tt
+  walks_run is_same does parts channels streams beyond (step ∷ steps) tells local walks order agrees =
       let begins = both_begin channels streams beyond step steps agrees walks.1 order in
-      let same : (channel : ℕ) → step.effect.looked ≡ Some channel
+      let same : (channel : Channel) → step.effect.looked ≡ Some channel
       → heads channels channel ≡ heads streams channel = λ channel at. let b = begins channel at in ap first b.3
       ∙ sym (ap first b.4) in (
         local step.agent (parts step.agent) step.event (heads streams) (heads channels) step.effect walks.0 same,
-        walks_run does (with_part parts step.agent step.effect.part) (after_effect step.effect channels)
-            (after_taking step.effect streams) beyond steps local walks.2 order.1
-            (agrees_after channels streams beyond step steps agrees begins),
+        walks_run is_same does (with_part parts step.agent step.effect.part) (after_effect is_same step.effect channels)
+            (after_taking is_same step.effect streams) beyond steps tells local walks.2 order.1
+            (agrees_after is_same tells channels streams beyond step steps agrees begins),
       )
 
-  pub channels_hold : ChannelsAfter Part Event Message
-  channels_hold does parts channels streams beyond [] walks order agrees channel = sym (append-nil (channels channel)) ∙ agrees channel
-  channels_hold does parts channels streams beyond (step ∷ steps) walks order agrees channel =
+  pub channels_hold : ChannelsAfter Channel Part Event Message
+  channels_hold is_same does parts channels streams beyond [] tells walks order agrees channel = sym (append-nil (channels channel))
+      ∙ agrees channel
+  channels_hold is_same does parts channels streams beyond (step ∷ steps) tells walks order agrees channel =
       let begins = both_begin channels streams beyond step steps agrees walks.1 order in
-      channels_hold does (with_part parts step.agent step.effect.part) (after_effect step.effect channels)
-      (after_taking step.effect streams) beyond steps walks.2 order.1
-      (agrees_after channels streams beyond step steps agrees begins) channel
+      channels_hold is_same does (with_part parts step.agent step.effect.part) (after_effect is_same step.effect channels)
+      (after_taking is_same step.effect streams) beyond steps tells walks.2 order.1
+      (agrees_after is_same tells channels streams beyond step steps agrees begins) channel
 
   -- what steps send is no earlier than any stamp up to which they all are
-  sent_no_earlier : (t channel : ℕ) (steps : List (Step Part Event Message)) → AllByRecursion (λ step. t ≤ step.stamp) steps
+  sent_no_earlier : (t : ℕ) (channel : Channel) (steps : List (Step Channel Part Event Message)) → AllByRecursion
+      (λ step. t ≤ step.stamp) steps
       → AllByRecursion SendsItsStamp steps
       → All (λ packet. t ≤ packet.stamp) (sent_by steps channel)
   sent_no_earlier t channel [] late own = All-nil (λ (packet : Packet Message). t ≤ packet.stamp)
@@ -118,17 +124,17 @@ module _ {Part Event Message : Type 0} where
       (recursion_from_All (λ (packet : Packet Message). packet.stamp ≡ step.stamp) (step.effect.sent channel) (own.0 channel))))
       (sent_no_earlier t channel steps late.1 own.1)
 
-  pub stamps_order : StampsOrder Part Event Message
+  pub stamps_order : StampsOrder Channel Part Event Message
   stamps_order steps rise own = ordered steps rise (recursion_from_All SendsItsStamp steps own)
     where
-      ordered : (steps : List (Step Part Event Message)) → AreByStamp steps → AllByRecursion SendsItsStamp steps
+      ordered : (steps : List (Step Channel Part Event Message)) → AreByStamp steps → AllByRecursion SendsItsStamp steps
           → SendNothingEarlier steps
       ordered [] rise own = tt
       ordered (step ∷ steps) rise own = (
         λ channel. sent_no_earlier step.stamp channel (step ∷ steps) (
           omega arith,
           pairs-head
-              (λ (a : Step Part Event Message). λ b. a.stamp ≤ b.stamp) step steps rise,
+              (λ (a : Step Channel Part Event Message). λ b. a.stamp ≤ b.stamp) step steps rise,
         ) own,
-        ordered steps (pairs-tail (λ (a : Step Part Event Message). λ b. a.stamp ≤ b.stamp) step steps rise) own.1,
+        ordered steps (pairs-tail (λ (a : Step Channel Part Event Message). λ b. a.stamp ≤ b.stamp) step steps rise) own.1,
       )

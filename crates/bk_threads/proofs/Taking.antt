@@ -1,19 +1,19 @@
 -- What taking a head off leaves of the channels, channel by channel.
-use Rattle.std.proofs.Common.{◌≡◌, ℕ, Bool, true, false, List, [], ◌∷◌, ◌++◌, Option, Some, None, drop, sym, refl, ap, ◌∙◌, if◌then◌else◌}
-use Rattle.std.proofs.lemmas.Bool.{eqb-true}
-use Rattle.bk_threads.specs.Agents.{Packet, Effect, Step, Channels, is_at, after_taking}
+use Rattle.std.proofs.Common.{◌≡◌, Bool, true, false, List, [], ◌∷◌, ◌++◌, Option, Some, None, drop, sym, refl, ap, ◌∙◌, if◌then◌else◌}
+use Rattle.bk_threads.specs.Agents.{Packet, Effect, Step, Channels, TellsChannels, is_at, after_taking}
 use Rattle.bk_threads.specs.Walks.{streams_after}
 
-pub looks_there : (o : Option ℕ) (channel : ℕ) → is_at o channel ≡ true → o ≡ Some channel
-looks_there None channel h = absurd (cc (h))
-looks_there (Some other) channel h = ap Some (eqb-true other channel h)
+module _ {Channel : Type 0} (is_same : Channel → Channel → Bool) (tells : TellsChannels is_same) where
+  pub looks_there : (o : Option Channel) (channel : Channel) → is_at is_same o channel ≡ true → o ≡ Some channel
+  looks_there None channel h = absurd (cc (h))
+  looks_there (Some other) channel h = ap Some ((tells other channel).0 h)
 
-module _ {Part Message : Type 0} where
+module _ {Channel Part Message : Type 0} (is_same : Channel → Channel → Bool) where
   -- a channel's own packets tell what is left of it
-  pub taking-same : (effect : Effect Part Message) (channels others : Channels Message) (channel : ℕ)
+  pub taking-same : (effect : Effect Channel Part Message) (channels others : Channels Channel Message) (channel : Channel)
       → others channel ≡ channels channel
-      → after_taking effect others channel ≡ after_taking effect channels channel
-  taking-same effect channels others channel e = whether effect.takes (is_at effect.looked channel)
+      → after_taking is_same effect others channel ≡ after_taking is_same effect channels channel
+  taking-same effect channels others channel e = whether effect.takes (is_at is_same effect.looked channel)
     where
       whether : (a b : Bool) → (if a then (if b then drop 1 (others channel) else others channel) else others channel)
           ≡ (if a then (if b then drop 1 (channels channel) else channels channel) else channels channel)
@@ -21,11 +21,14 @@ module _ {Part Message : Type 0} where
       whether true false = e
       whether true true = ap (drop 1) e
 
+module _ {Channel Part Message : Type 0} (is_same : Channel → Channel → Bool) (tells : TellsChannels is_same) where
   -- a channel at which the event doesn't look stays as it is
-  pub taking-other : (effect : Effect Part Message) (channels : Channels Message) (channel : ℕ) → (effect.looked ≡ Some channel
+  pub taking-other : (effect : Effect Channel Part Message) (channels : Channels Channel Message) (channel : Channel) →
+      (effect.looked ≡ Some channel
       → ⊥)
-      → after_taking effect channels channel ≡ channels channel
-  taking-other effect channels channel apart = whether effect.takes (is_at effect.looked channel) (looks_there effect.looked channel)
+      → after_taking is_same effect channels channel ≡ channels channel
+  taking-other effect channels channel apart = whether effect.takes (is_at is_same effect.looked channel)
+      (looks_there is_same tells effect.looked channel)
     where
       whether : (a b : Bool) → (b ≡ true → effect.looked ≡ Some channel)
           → (if a then (if b then drop 1 (channels channel) else channels channel) else channels channel) ≡ channels channel
@@ -34,11 +37,13 @@ module _ {Part Message : Type 0} where
       whether true true h = absurd (apart (h refl))
 
   -- where there is a head, what stands behind more of it stays there
-  pub taking-longer : (effect : Effect Part Message) (channels more : Channels Message) (channel : ℕ)
-      → ((other : ℕ) → effect.looked ≡ Some other
+  pub taking-longer : (effect : Effect Channel Part Message) (channels more : Channels Channel Message) (channel : Channel)
+      → ((other : Channel) → effect.looked ≡ Some other
       → (packet : Packet Message) × (rest : List (Packet Message)) × (channels other ≡ packet ∷ rest))
-      → after_taking effect (λ other. channels other ++ more other) channel ≡ after_taking effect channels channel ++ more channel
-  taking-longer effect channels more channel begins = whether effect.takes (is_at effect.looked channel) (looks_there effect.looked channel)
+      → after_taking is_same effect (λ other. channels other ++ more other) channel
+      ≡ after_taking is_same effect channels channel ++ more channel
+  taking-longer effect channels more channel begins = whether effect.takes (is_at is_same effect.looked channel)
+      (looks_there is_same tells effect.looked channel)
     where
       whether : (a b : Bool) → (b ≡ true → effect.looked ≡ Some channel)
           → (if a then (if b then drop 1
@@ -50,11 +55,11 @@ module _ {Part Message : Type 0} where
           let b = begins channel (h refl) in
           ap (λ packets. drop 1 (packets ++ more channel)) b.2 ∙ sym (ap (λ packets. drop 1 packets ++ more channel) b.2)
 
-module _ {Part Event Message : Type 0} where
-  pub streams-same : (streams others : Channels Message) (steps : List (Step Part Event Message)) (channel : ℕ)
+module _ {Channel Part Event Message : Type 0} (is_same : Channel → Channel → Bool) where
+  pub streams-same : (streams others : Channels Channel Message) (steps : List (Step Channel Part Event Message)) (channel : Channel)
       → others channel ≡ streams channel
-      → streams_after others steps channel ≡ streams_after streams steps channel
+      → streams_after is_same others steps channel ≡ streams_after is_same streams steps channel
   streams-same streams others [] channel e = e
   streams-same streams others (step ∷ steps) channel e =
-      streams-same (after_taking step.effect streams) (after_taking step.effect others) steps channel
-      (taking-same step.effect streams others channel e)
+      streams-same (after_taking is_same step.effect streams) (after_taking is_same step.effect others) steps channel
+      (taking-same is_same step.effect streams others channel e)

@@ -1,9 +1,9 @@
 -- What agents have done alone is a run of them all, where it is merged by stamps.
-use Rattle.std.specs.Prelude.{◌≡◌, ℕ, ◌≤◌, List, ◌++◌, All, AllPairs}
+use Rattle.std.specs.Prelude.{◌≡◌, ℕ, ◌≤◌, Bool, List, ◌++◌, All, AllPairs}
 use Rattle.bk_system.specs.declared.event.Event.{Event}
 use Rattle.bk_threads.specs.declared.merging.Journal.{Journal}
 use Rattle.bk_threads.specs.Journals.{entries_of, own, IsMerge}
-use Rattle.bk_threads.specs.Agents.{Step, Rules, Channels, IsLocal, sent_by, steps_of}
+use Rattle.bk_threads.specs.Agents.{Step, Rules, Channels, IsLocal, TellsChannels, sent_by, steps_of}
 use Rattle.bk_threads.specs.Walks.{WalksAlone, Walks, Runs, part_after, parts_after, streams_after, channels_after, AreByStamp, SendsItsStamp, SendNothingEarlier}
 
 -- MERGES
@@ -20,45 +20,45 @@ JournalsStand = (journals : List Journal) (events : List Event) (n : ℕ) → (m
 
 -- RUNS
 
-module _ (Part Event Message : Type 0) where
+module _ (Channel Part Event Message : Type 0) where
   -- A walk goes on as before where more stands behind its streams.
   abbrev pub WalksGoOn : Type 0
-  WalksGoOn = (does : Rules Part Event Message) (receiver : ℕ
-      → ℕ) (n : ℕ) (part : Part) (streams more : Channels Message) (steps : List (Step Part Event Message))
-      → IsLocal does → WalksAlone does receiver n part streams steps
-      → WalksAlone does receiver n part (λ channel. streams channel ++ more channel) steps
-      × ((channel : ℕ) → streams_after
-      (λ other. streams other ++ more other) steps channel ≡ streams_after streams steps channel ++ more channel)
+  WalksGoOn = (is_same : Channel → Channel → Bool) (does : Rules Channel Part Event Message) (receiver : Channel
+      → ℕ) (n : ℕ) (part : Part) (streams more : Channels Channel Message) (steps : List (Step Channel Part Event Message))
+      → TellsChannels is_same → IsLocal does → WalksAlone is_same does receiver n part streams steps
+      → WalksAlone is_same does receiver n part (λ channel. streams channel ++ more channel) steps
+      × ((channel : Channel) → streams_after is_same
+      (λ other. streams other ++ more other) steps channel ≡ streams_after is_same streams steps channel ++ more channel)
 
   -- The walks of all agents are one walk, in any order that keeps each agent's own.
   abbrev pub WalksJoin : Type 0
-  WalksJoin = (does : Rules Part Event Message) (receiver : ℕ → ℕ) (parts : ℕ
-      → Part) (streams : Channels Message) (steps : List (Step Part Event Message))
-      → IsLocal does → ((n : ℕ) → WalksAlone does receiver n (parts n) streams (steps_of n steps))
-      → Walks does parts streams steps
+  WalksJoin = (is_same : Channel → Channel → Bool) (does : Rules Channel Part Event Message) (receiver : Channel → ℕ) (parts : ℕ
+      → Part) (streams : Channels Channel Message) (steps : List (Step Channel Part Event Message))
+      → TellsChannels is_same → IsLocal does → ((n : ℕ) → WalksAlone is_same does receiver n (parts n) streams (steps_of n steps))
+      → Walks is_same does parts streams steps
 
   -- By stamp, no step sends anything that is earlier than one before it.
   abbrev pub StampsOrder : Type 0
-  StampsOrder = (steps : List (Step Part Event Message)) → AreByStamp steps → All SendsItsStamp steps → SendNothingEarlier steps
+  StampsOrder = (steps : List (Step Channel Part Event Message)) → AreByStamp steps → All SendsItsStamp steps → SendNothingEarlier steps
 
   -- Where each channel holds the beginning of its stream and the steps send the rest, and perhaps more, a walk is a run: a step that looks
   -- at a packet has a greater stamp, so that packet isn't among those still to be sent.
   abbrev pub WalksRun : Type 0
-  WalksRun = (does : Rules Part Event Message) (parts : ℕ
-      → Part) (channels streams beyond : Channels Message) (steps : List (Step Part Event Message))
-      → IsLocal does → Walks does parts streams steps → SendNothingEarlier steps
-      → ((channel : ℕ) → channels channel ++ sent_by steps channel ≡ streams channel ++ beyond channel)
-      → Runs does parts channels steps
+  WalksRun = (is_same : Channel → Channel → Bool) (does : Rules Channel Part Event Message) (parts : ℕ
+      → Part) (channels streams beyond : Channels Channel Message) (steps : List (Step Channel Part Event Message))
+      → TellsChannels is_same → IsLocal does → Walks is_same does parts streams steps → SendNothingEarlier steps
+      → ((channel : Channel) → channels channel ++ sent_by steps channel ≡ streams channel ++ beyond channel)
+      → Runs is_same does parts channels steps
 
   -- and then each channel holds what is left of its stream, and what was sent beyond it
   abbrev pub ChannelsAfter : Type 0
-  ChannelsAfter = (does : Rules Part Event Message) (parts : ℕ
-      → Part) (channels streams beyond : Channels Message) (steps : List (Step Part Event Message))
-      → Walks does parts streams steps → SendNothingEarlier steps
-      → ((channel : ℕ) → channels channel ++ sent_by steps channel ≡ streams channel ++ beyond channel)
-      → (channel : ℕ) → channels_after channels steps channel ≡ streams_after streams steps channel ++ beyond channel
+  ChannelsAfter = (is_same : Channel → Channel → Bool) (does : Rules Channel Part Event Message) (parts : ℕ
+      → Part) (channels streams beyond : Channels Channel Message) (steps : List (Step Channel Part Event Message))
+      → TellsChannels is_same → Walks is_same does parts streams steps → SendNothingEarlier steps
+      → ((channel : Channel) → channels channel ++ sent_by steps channel ≡ streams channel ++ beyond channel)
+      → (channel : Channel) → channels_after is_same channels steps channel ≡ streams_after is_same streams steps channel ++ beyond channel
 
   -- Each agent's part after all steps is the one after its own.
   abbrev pub PartsAfter : Type 0
-  PartsAfter = (parts : ℕ → Part) (steps : List (Step Part Event Message)) (n : ℕ)
+  PartsAfter = (parts : ℕ → Part) (steps : List (Step Channel Part Event Message)) (n : ℕ)
       → parts_after parts steps n ≡ part_after (parts n) (steps_of n steps)

@@ -11,12 +11,12 @@ pub fn merge_laws()
 /// its channels brought it in all, and each step that looks at a packet has a greater stamp than that packet, the steps of all by stamp are
 /// a run of them all: each was enabled where it stands, and each channel holds what it should.
 ///
-/// Of what types parts, events and messages are, nothing is asked.
-pub fn walk_laws<Part, Event, Message>()
-    ensures go_on { WalksGoOn Part Event Message }
-    ensures join { WalksJoin Part Event Message }
-    ensures order { StampsOrder Part Event Message }
-    ensures run { WalksRun Part Event Message }
-    ensures channels { ChannelsAfter Part Event Message }
-    ensures parts { PartsAfter Part Event Message }
+/// Of what types channels, parts, events and messages are, nothing is asked, but that a test tells whether two channels are the same.
+pub fn walk_laws<Channel, Part, Event, Message>()
+    ensures go_on { WalksGoOn Channel Part Event Message }
+    ensures join { WalksJoin Channel Part Event Message }
+    ensures order { StampsOrder Channel Part Event Message }
+    ensures run { WalksRun Channel Part Event Message }
+    ensures channels { ChannelsAfter Channel Part Event Message }
+    ensures parts { PartsAfter Channel Part Event Message }
 {}
