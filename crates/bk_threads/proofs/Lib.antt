@@ -3,3 +3,4 @@ pub mod Orders
 pub mod Taking
 pub mod Running
 pub mod Walking
+pub mod SystemRunning

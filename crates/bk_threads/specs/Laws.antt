@@ -1,10 +1,18 @@
 -- What agents have done alone is a run of them all, where it is merged by stamps.
-use Rattle.std.specs.Prelude.{◌≡◌, ℕ, ◌≤◌, Bool, List, ◌++◌, All, AllPairs}
+use Rattle.std.specs.Prelude.{◌≡◌, ℕ, ◌≤◌, Bool, List, map, ◌++◌, All, AllPairs}
+use Rattle.bk_base.specs.Places.{Shape}
+use Rattle.bk_isa.specs.declared.form.Form.{Form}
+use Rattle.bk_msg.specs.declared.row.Row.{Row}
 use Rattle.bk_system.specs.declared.event.Event.{Event}
+use Rattle.bk_system.specs.State.{State}
+use Rattle.bk_system.specs.Runs.{IsTightFrom}
+use Rattle.bk_agents.specs.Parts.{part_of}
+use Rattle.bk_agents.specs.Channels.{Channel, channel_of, is_same}
 use Rattle.bk_threads.specs.declared.merging.Journal.{Journal}
 use Rattle.bk_threads.specs.Journals.{entries_of, own, IsMerge}
 use Rattle.bk_threads.specs.Agents.{Step, Rules, Channels, IsLocal, TellsChannels, sent_by, steps_of}
 use Rattle.bk_threads.specs.Walks.{WalksAlone, Walks, Runs, part_after, parts_after, streams_after, channels_after, AreByStamp, SendsItsStamp, SendNothingEarlier}
+use Rattle.bk_threads.specs.System.{SystemStep, messages_of, system_rules, step_event}
 
 -- MERGES
 
@@ -62,3 +70,16 @@ module _ (Channel Part Event Message : Type 0) where
   abbrev pub PartsAfter : Type 0
   PartsAfter = (parts : ℕ → Part) (steps : List (Step Channel Part Event Message)) (n : ℕ)
       → parts_after parts steps n ≡ part_after (parts n) (steps_of n steps)
+
+-- THE SYSTEM
+
+-- a test tells its channels, and an event looks at one head alone
+abbrev pub SystemIsLocal : Type 0
+SystemIsLocal = (k : Shape) (program : List Form) → TellsChannels is_same × IsLocal (system_rules k program)
+
+-- A run of its agents from the parts and the channels of a state is a list of events that is tight from there.
+abbrev pub SystemRuns : Type 0
+SystemRuns = (k : Shape) (program : List Form) (s : State) (channels : Channels Channel Row) (steps : List SystemStep)
+    → ((channel : Channel) → messages_of (channels channel) ≡ channel_of s channel)
+    → Runs is_same (system_rules k program) (part_of k s) channels steps
+    → IsTightFrom k program s (map step_event steps)

@@ -1,4 +1,5 @@
 pub mod Journals
 pub mod Agents
 pub mod Walks
+pub mod System
 pub mod Laws

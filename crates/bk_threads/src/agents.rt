@@ -1,4 +1,4 @@
-ghost use Rattle.bk_threads.specs.Laws.{OneMerge, JournalsStand, WalksGoOn, WalksJoin, StampsOrder, WalksRun, ChannelsAfter, PartsAfter};
+ghost use Rattle.bk_threads.specs.Laws.{OneMerge, JournalsStand, WalksGoOn, WalksJoin, StampsOrder, WalksRun, ChannelsAfter, PartsAfter, SystemIsLocal, SystemRuns};
 
 /// Journals have one merge, whatever the order in which they stand. Where no stamp in an agent's journal is below one before it, the merge
 /// has that journal's entries in their order.
@@ -19,4 +19,10 @@ pub fn walk_laws<Channel, Part, Event, Message>()
     ensures run { WalksRun Channel Part Event Message }
     ensures channels { ChannelsAfter Channel Part Event Message }
     ensures parts { PartsAfter Channel Part Event Message }
+{}
+
+/// The system's agents are such agents, and what is a run of them is a list of events that were all enabled where they stand.
+pub fn system_laws()
+    ensures local { SystemIsLocal }
+    ensures run { SystemRuns }
 {}
