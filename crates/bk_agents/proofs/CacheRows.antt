@@ -24,7 +24,8 @@ use Rattle.bk_agents.proofs.Own.{IsCaches, SendsOwn, MayBeOwn, issue_own, comman
 
 -- a cache sends nothing on the engine's channels and the memory's
 none-on : (c : ℕ) (o : Option Row) (channel : Channel) → SendsOwn o
-    → ((n : Network) (to : ℕ) → IsCaches n → is_same (channel_in n c to) channel ≡ false) → sent_on c channel (option_to_list o) ≡ []
+    → ((n : Network) (to : ℕ) → IsCaches n → is_same (channel_in n c to) channel ≡ false)
+    → sent_on c channel (option_to_list o) ≡ []
 none-on c None channel own other = refl
 none-on c (Some m) channel own other =
     ap (λ (b : Bool). cond b (m ∷ []) []) (other (network_of m) (receiver_of m) own)

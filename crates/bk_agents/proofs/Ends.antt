@@ -28,7 +28,8 @@ use Rattle.bk_agents.proofs.Touched.{cache-touched, touched-ends}
 -- THE CHANNEL THAT IS TOUCHED
 
 by-cache : (k : Shape) (completed : ℕ) (at channel : Channel) (o : Option Transition) (local : Local)
-    → option_map (cache_local completed (Some at)) o ≡ Some local → local.touched ≡ Some channel → ends_at k channel ≡ ends_at k at
+    → option_map (cache_local completed (Some at)) o ≡ Some local → local.touched ≡ Some channel
+    → ends_at k channel ≡ ends_at k at
 by-cache k completed at channel o local e h =
     ap (ends_at k) (same_Some channel at (sym h ∙ cache-touched completed (Some at) o local e))
 

@@ -66,7 +66,8 @@ request-left choice (Some popped) f from =
         → cond z (put f popped.source (drop 1 (f popped.source))) f from
         ≡ cond (is_touched (touched_in popped.source x y z) (channels.Request from)) (drop 1 (f from)) (f from)
     go true y z p q = subst (λ (b : Bool). cond b (put f popped.source (drop 1 (f popped.source))) f from ≡ f from) (sym (p refl)) refl
-    go false true z p q = subst (λ (b : Bool). cond b (put f popped.source (drop 1 (f popped.source))) f from ≡ f from) (sym (q refl)) refl
+    go false true z p q = subst (λ (b : Bool). cond b (put f popped.source (drop 1 (f popped.source))) f from ≡ f from)
+        (sym (q refl)) refl
     go false false true p q = without_head f popped.source from
     go false false false p q = refl
 

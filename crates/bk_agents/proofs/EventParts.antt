@@ -42,7 +42,8 @@ pub if-own : (c : ℕ) (b : Bool) (o : Option Transition) → MayBeOwn c o → M
 if-own c true o own = own
 if-own c false o own = tt
 
-pub and-own : (c : ℕ) (f : Row → Option Transition) (o : Option Row) → ((m : Row) → MayBeOwn c (f m)) → MayBeOwn c (option_and_then f o)
+pub and-own : (c : ℕ) (f : Row → Option Transition) (o : Option Row) → ((m : Row) → MayBeOwn c (f m))
+    → MayBeOwn c (option_and_then f o)
 and-own c f None own = tt
 and-own c f (Some m) own = own m
 
@@ -80,7 +81,8 @@ is-cache k program s heads event c local h e = go (ltb c k.caches) refl e
         → c < k.caches
     go true l i = ltb-true c k.caches l
     go false l i =
-        let no : None ≡ Some local = sym (none-else k program s heads event (eqb c (engine_number k)) (eqb c (memory_number k)) h) ∙ i in
+        let no : None ≡ Some local = sym (none-else k program s heads event (eqb c (engine_number k)) (eqb c (memory_number k)) h)
+        ∙ i in
         absurd (cc no)
 
 -- the local row of a cache's part

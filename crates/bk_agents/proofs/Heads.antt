@@ -29,7 +29,8 @@ SameAt heads others o = (channel : Channel) → o ≡ Some channel → others ch
 
 -- A CACHE: the head of one channel
 
-by-head : (completed : ℕ) (channel : Channel) (step : Option Row → Option Transition) (heads others : Channel → Option Row) (local : Local)
+by-head : (completed : ℕ) (channel : Channel) (step : Option Row → Option Transition) (heads others : Channel → Option Row)
+    (local : Local)
     → option_map (cache_local completed (Some channel)) (step (heads channel)) ≡ Some local → SameAt heads others local.touched
     → option_map (cache_local completed (Some channel)) (step (others channel)) ≡ Some local
 by-head completed channel step heads others local e same =

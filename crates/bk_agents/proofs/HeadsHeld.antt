@@ -27,7 +27,8 @@ use Rattle.bk_agents.proofs.Touched.{offered-popped}
 
 -- each head that an event doesn't take off is there later
 abbrev Stay : (Channel → Option Row) → (Channel → Option Row) → Bool → Option Channel → Type 0
-Stay heads later pops touched = (channel : Channel) (m : Row) → heads channel ≡ Some m → (pops && is_touched touched channel) ≡ false
+Stay heads later pops touched = (channel : Channel) (m : Row) → heads channel ≡ Some m
+    → (pops && is_touched touched channel) ≡ false
     → later channel ≡ Some m
 
 -- a message that is offered is the head of a channel

@@ -29,7 +29,8 @@ IsThere heads channel = (m : Row) × (heads channel ≡ Some m)
 
 -- A CACHE, THE MEMORY: a row is of a message
 
-of-message : (f : Row → Option Transition) (o : Option Row) (t : Transition) → option_and_then f o ≡ Some t → (m : Row) × (o ≡ Some m)
+of-message : (f : Row → Option Transition) (o : Option Row) (t : Transition) → option_and_then f o ≡ Some t
+    → (m : Row) × (o ≡ Some m)
 of-message f None t e = absurd cc
 of-message f (Some m) t e = (m, refl)
 
@@ -37,8 +38,10 @@ if-there : (b : Bool) (o : Option Transition) (t : Transition) → cond b o None
 if-there true o t e = e
 if-there false o t e = absurd cc
 
-by-cache : (completed : ℕ) (at channel : Channel) (f : Row → Option Transition) (b : Bool) (heads : Channel → Option Row) (local : Local)
-    → option_map (cache_local completed (Some at)) (cond b (option_and_then f (heads at)) None) ≡ Some local → local.touched ≡ Some channel
+by-cache : (completed : ℕ) (at channel : Channel) (f : Row → Option Transition) (b : Bool) (heads : Channel → Option Row)
+    (local : Local)
+    → option_map (cache_local completed (Some at)) (cond b (option_and_then f (heads at)) None) ≡ Some local
+    → local.touched ≡ Some channel
     → IsThere heads channel
 by-cache completed at channel f b heads local e h =
     let row = of-some (cache_local completed (Some at)) (cond b (option_and_then f (heads at)) None) local e in
@@ -54,7 +57,8 @@ by-memory memory channel heads local e h =
 -- THE ENGINE
 
 -- a head that is taken off is the one that it holds
-from-head : (o : Option Head) (popped : Choice) → choice_of o ≡ Some popped → (head : Head) × (o ≡ Some head) × (head.choice ≡ popped)
+from-head : (o : Option Head) (popped : Choice) → choice_of o ≡ Some popped
+    → (head : Head) × (o ≡ Some head) × (head.choice ≡ popped)
 from-head None popped e = absurd cc
 from-head (Some head) popped e = (head, refl, same_Some head.choice popped e)
 
@@ -66,13 +70,15 @@ pops-held k engine (Some (Popq mark)) choice message popped e = from-head engine
 pops-held k engine (Some f) choice message popped e = absurd cc
 
 -- `wfq` runs only where it is offered a message
-waits-for : (o : Option Head) (classes : ℕ) (choice : Choice) (message : Option Row) → is_none (wait_stop o classes choice message) ≡ true
+waits-for : (o : Option Head) (classes : ℕ) (choice : Choice) (message : Option Row)
+    → is_none (wait_stop o classes choice message) ≡ true
     → (m : Row) × (message ≡ Some m)
 waits-for (Some head) classes choice message e = absurd cc
 waits-for None classes choice None e = absurd cc
 waits-for None classes choice (Some m) e = (m, refl)
 
-pub wait-message : (k : Shape) (engine : EngineState) (form : Option Form) (choice : Choice) (message : Option Row) → is_wait form ≡ true
+pub wait-message : (k : Shape) (engine : EngineState) (form : Option Form) (choice : Choice) (message : Option Row)
+    → is_wait form ≡ true
     → is_none (stop_at k engine form choice message) ≡ true → (m : Row) × (message ≡ Some m)
 wait-message k engine None choice message w e = absurd cc
 wait-message k engine (Some (Wfq classes)) choice message w e = waits-for engine.core.head classes choice message e

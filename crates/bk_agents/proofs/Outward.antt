@@ -41,7 +41,8 @@ either : (b : Bool) (xs ys : List Row) → AreEngines xs → AreEngines ys → A
 either true xs ys p q = p
 either false xs ys p q = q
 
-invs-outward : (held : Held) (with_owner : Bool) (summary : Summary) (n : ℕ) → AreEngines (join_below n (inv_to held with_owner summary))
+invs-outward : (held : Held) (with_owner : Bool) (summary : Summary) (n : ℕ)
+    → AreEngines (join_below n (inv_to held with_owner summary))
 invs-outward held with_owner summary zero = tt
 invs-outward held with_owner summary (suc n) =
     joined (join_below n (inv_to held with_owner summary)) (inv_to held with_owner summary n)

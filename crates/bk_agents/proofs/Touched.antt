@@ -16,7 +16,8 @@ cache-touched completed touched o local e =
     let row = of-some (cache_local completed touched) o local e in ap (λ (l : Local). l.touched) (sym row.2)
 
 -- the channel that a choice offers is the one from which its head is taken off
-pub offered-popped : (choice : Choice) (channel : Channel) → offered_channel choice ≡ Some channel → popped_channel choice ≡ Some channel
+pub offered-popped : (choice : Choice) (channel : Channel) → offered_channel choice ≡ Some channel
+    → popped_channel choice ≡ Some channel
 offered-popped choice channel = go (eqb choice.class 1) (eqb choice.class 2) (eqb choice.source 0) (eqb choice.class 3)
   where
     go : (x y z u : Bool)
@@ -44,7 +45,8 @@ offered-ends k choice channel = go (eqb choice.class 1) (eqb choice.class 2) (eq
     go false false z true e = ap (ends_at k) (sym (same_Some _ _ e))
     go false false z false e = absurd cc
 
-popped-ends : (k : Shape) (choice : Choice) (channel : Channel) → popped_channel choice ≡ Some channel → ends_at k channel ≡ engine_number k
+popped-ends : (k : Shape) (choice : Choice) (channel : Channel) → popped_channel choice ≡ Some channel
+    → ends_at k channel ≡ engine_number k
 popped-ends k choice channel = go (eqb choice.class 1) (eqb choice.class 2) (eqb choice.class 3)
   where
     go : (x y u : Bool)

@@ -51,7 +51,8 @@ module _ {Channel Part Event Message : Type 0} where
   -- what each channel holds and what steps send there, against its stream and what is beyond it
   abbrev Agrees : Channels Channel Message → Channels Channel Message → Channels Channel Message → List
       (Step Channel Part Event Message) → Type 0
-  Agrees channels streams beyond steps = (channel : Channel) → channels channel ++ sent_by steps channel ≡ streams channel ++ beyond channel
+  Agrees channels streams beyond steps = (channel : Channel)
+      → channels channel ++ sent_by steps channel ≡ streams channel ++ beyond channel
 
   -- the channel at which the first step looks begins as its stream does
   both_begin : (channels streams beyond : Channels Channel Message) (step : Step Channel Part Event Message)

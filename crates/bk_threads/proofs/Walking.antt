@@ -25,11 +25,13 @@ module _ {X : Type 0} where
   with_part-other parts n part other apart = ap (λ (b : Bool). if b then part else parts other) (ne_eqb n other apart)
 
 module _ {Channel Part Event Message : Type 0} where
-  pub steps_of-same : (n : ℕ) (step : Step Channel Part Event Message) (steps : List (Step Channel Part Event Message)) → step.agent ≡ n
+  pub steps_of-same : (n : ℕ) (step : Step Channel Part Event Message) (steps : List (Step Channel Part Event Message))
+      → step.agent ≡ n
       → steps_of n (step ∷ steps) ≡ step ∷ steps_of n steps
   steps_of-same n step steps same = ap (λ (b : Bool). if b then step ∷ steps_of n steps else steps_of n steps) (eq-eqb step.agent n same)
 
-  pub steps_of-other : (n : ℕ) (step : Step Channel Part Event Message) (steps : List (Step Channel Part Event Message)) → (step.agent ≡ n
+  pub steps_of-other : (n : ℕ) (step : Step Channel Part Event Message) (steps : List (Step Channel Part Event Message))
+      → (step.agent ≡ n
       → ⊥) → steps_of n (step ∷ steps) ≡ steps_of n steps
   steps_of-other n step steps apart = ap
       (λ (b : Bool). if b then step ∷ steps_of n steps else steps_of n steps) (ne_eqb step.agent n apart)

@@ -47,7 +47,8 @@ module _ (Channel Part Event Message : Type 0) where
 
   -- By stamp, no step sends anything that is earlier than one before it.
   abbrev pub StampsOrder : Type 0
-  StampsOrder = (steps : List (Step Channel Part Event Message)) → AreByStamp steps → All SendsItsStamp steps → SendNothingEarlier steps
+  StampsOrder = (steps : List (Step Channel Part Event Message)) → AreByStamp steps → All SendsItsStamp steps
+      → SendNothingEarlier steps
 
   -- Where each channel holds the beginning of its stream and the steps send the rest, and perhaps more, a walk is a run: a step that looks
   -- at a packet has a greater stamp, so that packet isn't among those still to be sent.
@@ -64,7 +65,8 @@ module _ (Channel Part Event Message : Type 0) where
       → Part) (channels streams beyond : Channels Channel Message) (steps : List (Step Channel Part Event Message))
       → TellsChannels is_same → Walks is_same does parts streams steps → SendNothingEarlier steps
       → ((channel : Channel) → channels channel ++ sent_by steps channel ≡ streams channel ++ beyond channel)
-      → (channel : Channel) → channels_after is_same channels steps channel ≡ streams_after is_same streams steps channel ++ beyond channel
+      → (channel : Channel)
+      → channels_after is_same channels steps channel ≡ streams_after is_same streams steps channel ++ beyond channel
 
   -- Each agent's part after all steps is the one after its own.
   abbrev pub PartsAfter : Type 0

@@ -29,7 +29,8 @@ module _ {Channel Part Event Message : Type 0} (is_same : Channel → Channel �
       × Walks does (with_part parts step.agent step.effect.part) (after_taking is_same step.effect streams) steps
 
   -- steps of all agents as one system: what a step sends is there for the next
-  abbrev pub Runs : Rules Channel Part Event Message → (ℕ → Part) → Channels Channel Message → List (Step Channel Part Event Message)
+  abbrev pub Runs : Rules Channel Part Event Message → (ℕ → Part) → Channels Channel Message
+      → List (Step Channel Part Event Message)
       → Type 0
   Runs does parts channels [] = Unit {0}
   Runs does parts channels (step ∷ steps) = (does step.agent (parts step.agent) (heads channels) step.event ≡ Some step.effect)
