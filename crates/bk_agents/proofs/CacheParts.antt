@@ -12,8 +12,10 @@ use Rattle.bk_engine.specs.declared.parts.Choice.{Choice}
 use Rattle.bk_engine.specs.Step.{Outcome}
 use Rattle.bk_system.specs.State.{State}
 use Rattle.bk_system.specs.Runs.{completed_by}
-use Rattle.bk_agents.specs.Parts.{Part, CachePart, EnginePart, MemoryPart, NoPart, engine_number, memory_number, part_of}
-use Rattle.bk_agents.specs.Channels.{Channel, heads_of}
+use Rattle.bk_system.specs.Routes.{engine_number, memory_number}
+use Rattle.bk_agents.specs.Parts.{Part, CachePart, EnginePart, MemoryPart, NoPart, part_of}
+use Rattle.bk_system.specs.declared.channel.Channel.{Channel}
+use Rattle.bk_system.specs.Routes.{heads_of}
 use Rattle.bk_agents.specs.Local.{cache_local, engine_local, memory_local, widened}
 use Rattle.bk_agents.proofs.Own.{CompletesOwn}
 use Rattle.bk_agents.proofs.Numbers.{cache-part, engine-part, memory-part}

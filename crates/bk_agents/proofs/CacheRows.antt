@@ -16,8 +16,9 @@ use Rattle.bk_system.specs.State.{State}
 use Rattle.bk_system.specs.Events.{first, with_taken, cache_row, command_of, fill_of, without_command, without_fill, row}
 use Rattle.bk_system.specs.Runs.{completed_by}
 use Rattle.bk_agents.specs.Parts.{CachePart, EnginePart, MemoryPart, NoPart, part_of}
-use Rattle.bk_agents.specs.Channels as channels
-use Rattle.bk_agents.specs.Channels.{Channel, channel_in, is_same, heads_of}
+use Rattle.bk_system.specs.declared.channel.Channel.TheVariants as channels
+use Rattle.bk_system.specs.declared.channel.Channel.{Channel}
+use Rattle.bk_system.specs.Routes.{channel_in, is_same, heads_of}
 use Rattle.bk_agents.specs.Local.{cache_local, local_row, sent_on, widened}
 use Rattle.bk_agents.proofs.Sending.{without_head, without_head_of_two, request-sent, response-sent, fill-sent, unsent}
 use Rattle.bk_agents.proofs.Own.{IsCaches, SendsOwn, MayBeOwn, issue_own, command_own, fill_own}

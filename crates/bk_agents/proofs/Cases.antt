@@ -14,8 +14,9 @@ use Rattle.bk_engine.specs.Engine.{EngineState, new_engine, new_core}
 use Rattle.bk_system.specs.declared.event.Event.TheVariants as events
 use Rattle.bk_system.specs.declared.event.Origin.{Origin}
 use Rattle.bk_agents.specs.Parts.{CachePart, EnginePart, MemoryPart}
-use Rattle.bk_agents.specs.Channels as channels
-use Rattle.bk_agents.specs.Channels.{Channel, heads_of}
+use Rattle.bk_system.specs.declared.channel.Channel.TheVariants as channels
+use Rattle.bk_system.specs.declared.channel.Channel.{Channel}
+use Rattle.bk_system.specs.Routes.{heads_of}
 use Rattle.bk_agents.specs.Local.{local_row}
 
 k : Shape

@@ -14,9 +14,11 @@ use Rattle.bk_lce.specs.CacheTable.{Transition}
 use Rattle.bk_engine.specs.Step.{runs_to}
 use Rattle.bk_system.specs.declared.event.Event.TheVariants as events
 use Rattle.bk_system.specs.Memory.{answer_to}
-use Rattle.bk_agents.specs.Parts.{CachePart, EnginePart, MemoryPart, engine_number, memory_number}
-use Rattle.bk_agents.specs.Channels as channels
-use Rattle.bk_agents.specs.Channels.{Channel, channel_in, channel_for, begins_at, ends_at}
+use Rattle.bk_system.specs.Routes.{engine_number, memory_number}
+use Rattle.bk_agents.specs.Parts.{CachePart, EnginePart, MemoryPart}
+use Rattle.bk_system.specs.declared.channel.Channel.TheVariants as channels
+use Rattle.bk_system.specs.declared.channel.Channel.{Channel}
+use Rattle.bk_system.specs.Routes.{channel_in, channel_for, begins_at, ends_at}
 use Rattle.bk_agents.specs.Laws.{TouchesItsOwn, SendsFromItself}
 use Rattle.bk_agents.specs.Local.{Local, cache_local, memory_local, engine_local, can_run, offered}
 use Rattle.bk_agents.proofs.EventParts.{if-own, and-own}

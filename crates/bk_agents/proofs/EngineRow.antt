@@ -15,9 +15,11 @@ use Rattle.bk_engine.specs.Step.{Outcome, runs, runs_to}
 use Rattle.bk_system.specs.declared.event.Event.TheVariants as events
 use Rattle.bk_system.specs.State.{State}
 use Rattle.bk_system.specs.Events.{Happening, first, is_choice, offered_head, heads_left, memin_left, popped_origins, origins_of, with_outcome, row}
-use Rattle.bk_agents.specs.Parts.{Part, engine_number, part_of}
-use Rattle.bk_agents.specs.Channels as channels
-use Rattle.bk_agents.specs.Channels.{Channel, channel_in, is_same, heads_of}
+use Rattle.bk_system.specs.Routes.{engine_number}
+use Rattle.bk_agents.specs.Parts.{Part, part_of}
+use Rattle.bk_system.specs.declared.channel.Channel.TheVariants as channels
+use Rattle.bk_system.specs.declared.channel.Channel.{Channel}
+use Rattle.bk_system.specs.Routes.{channel_in, is_same, heads_of}
 use Rattle.bk_agents.specs.Local.{Local, offered, origins_at, touched_by, engine_local, is_touched, sent_on, local_row, widened}
 use Rattle.bk_agents.proofs.Numbers.{engine-part}
 use Rattle.bk_agents.proofs.Sending.{without_head, commands-sent, memout-sent}

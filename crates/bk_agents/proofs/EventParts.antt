@@ -12,9 +12,11 @@ use Rattle.bk_system.specs.declared.event.Event.TheVariants as events
 use Rattle.bk_system.specs.State.{State}
 use Rattle.bk_system.specs.Events.{first}
 use Rattle.bk_system.specs.Runs.{completed_by}
-use Rattle.bk_agents.specs.Parts.{Part, CachePart, EnginePart, MemoryPart, NoPart, engine_number, memory_number, part_of}
-use Rattle.bk_agents.specs.Channels as channels
-use Rattle.bk_agents.specs.Channels.{Channel, heads_of}
+use Rattle.bk_system.specs.Routes.{engine_number, memory_number}
+use Rattle.bk_agents.specs.Parts.{Part, CachePart, EnginePart, MemoryPart, NoPart, part_of}
+use Rattle.bk_system.specs.declared.channel.Channel.TheVariants as channels
+use Rattle.bk_system.specs.declared.channel.Channel.{Channel}
+use Rattle.bk_system.specs.Routes.{heads_of}
 use Rattle.bk_agents.specs.Laws.{PartsStay}
 use Rattle.bk_agents.specs.Local.{Local, cache_local, engine_local, memory_local, can_run, offered, local_row, widened}
 use Rattle.bk_agents.proofs.CacheParts.{Leaves, cache-leaves, engine-leaves, memory-leaves}

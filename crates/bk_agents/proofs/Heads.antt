@@ -16,8 +16,8 @@ use Rattle.bk_system.specs.declared.event.Event.TheVariants as events
 use Rattle.bk_system.specs.declared.event.Origin.{Origin}
 use Rattle.bk_system.specs.Events.{is_wait, is_choice, origins_of}
 use Rattle.bk_agents.specs.Parts.{CachePart, EnginePart, MemoryPart}
-use Rattle.bk_agents.specs.Channels as channels
-use Rattle.bk_agents.specs.Channels.{Channel}
+use Rattle.bk_system.specs.declared.channel.Channel.TheVariants as channels
+use Rattle.bk_system.specs.declared.channel.Channel.{Channel}
 use Rattle.bk_agents.specs.Laws.{OneHeadCounts}
 use Rattle.bk_agents.specs.Local.{Local, cache_local, memory_local, engine_local, offered_channel, offered, touched_by, origins_at}
 use Rattle.bk_agents.proofs.SomeRow.{of-some, of-test, both}

@@ -15,8 +15,8 @@ use Rattle.bk_engine.specs.Stops.{stop_at}
 use Rattle.bk_system.specs.declared.event.Event.TheVariants as events
 use Rattle.bk_system.specs.Events.{is_choice}
 use Rattle.bk_agents.specs.Parts.{Part, CachePart, EnginePart, MemoryPart}
-use Rattle.bk_agents.specs.Channels as channels
-use Rattle.bk_agents.specs.Channels.{Channel}
+use Rattle.bk_system.specs.declared.channel.Channel.TheVariants as channels
+use Rattle.bk_system.specs.declared.channel.Channel.{Channel}
 use Rattle.bk_agents.specs.Held.{held_head, HoldsFirst}
 use Rattle.bk_agents.specs.Laws.{HoldsOn}
 use Rattle.bk_agents.specs.Local.{Local, cache_local, memory_local, engine_local, offered_channel, popped_channel, offered, touched_by, is_touched}

@@ -9,9 +9,11 @@ use Rattle.bk_system.specs.declared.event.Event.TheVariants as events
 use Rattle.bk_system.specs.Memory.{memory_after, answer_to}
 use Rattle.bk_system.specs.State.{State}
 use Rattle.bk_system.specs.Events.{first, access_row, row}
-use Rattle.bk_agents.specs.Parts.{Part, memory_number, part_of}
-use Rattle.bk_agents.specs.Channels as channels
-use Rattle.bk_agents.specs.Channels.{Channel, is_same, heads_of}
+use Rattle.bk_system.specs.Routes.{memory_number}
+use Rattle.bk_agents.specs.Parts.{Part, part_of}
+use Rattle.bk_system.specs.declared.channel.Channel.TheVariants as channels
+use Rattle.bk_system.specs.declared.channel.Channel.{Channel}
+use Rattle.bk_system.specs.Routes.{is_same, heads_of}
 use Rattle.bk_agents.specs.Local.{memory_local, local_row, sent_on, widened}
 use Rattle.bk_agents.proofs.Numbers.{memory-part}
 use Rattle.bk_agents.proofs.Sending.{unsent}

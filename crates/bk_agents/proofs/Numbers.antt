@@ -3,7 +3,8 @@ use Rattle.std.proofs.Common.{◌≡◌, ℕ, ◌<◌, Bool, cond, eqb, ap, ◌�
 use Rattle.bk_base.specs.Places.{Shape}
 use Rattle.bk_system.specs.State.{State}
 use Rattle.bk_system.specs.Runs.{completed_by}
-use Rattle.bk_agents.specs.Parts.{Part, CachePart, EnginePart, MemoryPart, NoPart, engine_number, memory_number, part_of}
+use Rattle.bk_system.specs.Routes.{engine_number, memory_number}
+use Rattle.bk_agents.specs.Parts.{Part, CachePart, EnginePart, MemoryPart, NoPart, part_of}
 
 -- the part that a number has, by how it compares
 abbrev by_number : State → ℕ → Bool → Bool → Bool → Part

@@ -1,8 +1,9 @@
 -- Two channels are the same exactly where the test says so.
 use Rattle.std.proofs.Common.{◌≡◌, ◌↔◌, true, eqb, refl, ap, ◌∙◌, subst, eq-eqb}
 use Rattle.std.proofs.lemmas.Bool.{eqb-true, and_parts}
-use Rattle.bk_agents.specs.Channels as channels
-use Rattle.bk_agents.specs.Channels.{Channel, is_same}
+use Rattle.bk_system.specs.declared.channel.Channel.TheVariants as channels
+use Rattle.bk_system.specs.declared.channel.Channel.{Channel}
+use Rattle.bk_system.specs.Routes.{is_same}
 
 same-equal : (channel other : Channel) → is_same channel other ≡ true → channel ≡ other
 same-equal (channels.Request from) (channels.Request c) e = ap channels.Request (eqb-true from c e)

@@ -7,8 +7,8 @@ use Rattle.bk_msg.specs.declared.row.Network.{Network}
 use Rattle.bk_msg.specs.declared.row.Network.TheVariants as networks
 use Rattle.bk_msg.specs.Networks.{network_of, receiver_of}
 use Rattle.bk_system.specs.Events.{added_if, is_request, is_response, is_fill, is_command, is_memout, requests_with, responses_with, fills_with, commands_with, memout_with}
-use Rattle.bk_agents.specs.Channels as channels
-use Rattle.bk_agents.specs.Channels.{channel_in, channel_for, is_same}
+use Rattle.bk_system.specs.declared.channel.Channel.TheVariants as channels
+use Rattle.bk_system.specs.Routes.{channel_in, channel_for, is_same}
 use Rattle.bk_agents.specs.Local.{sent_on}
 
 -- ONE CHANNEL AMONG THOSE OF A NUMBER

@@ -10,8 +10,9 @@ use Rattle.bk_system.specs.State.{State}
 use Rattle.bk_system.specs.Events.{Happening, row}
 use Rattle.bk_system.specs.Runs.{IsTightFrom, state_after_row, after}
 use Rattle.bk_agents.specs.Parts.{Part, part_of, agent_of}
-use Rattle.bk_agents.specs.Channels as channels
-use Rattle.bk_agents.specs.Channels.{Channel, channel_of, heads_of}
+use Rattle.bk_system.specs.declared.channel.Channel.TheVariants as channels
+use Rattle.bk_system.specs.declared.channel.Channel.{Channel}
+use Rattle.bk_system.specs.Routes.{channel_of, heads_of}
 use Rattle.bk_agents.specs.Laws.{ChannelsGrow}
 use Rattle.bk_agents.specs.Local.{Local, local_row, channel_after, widened}
 use Rattle.bk_agents.specs.Walks.{Walks}

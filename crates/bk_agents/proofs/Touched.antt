@@ -4,9 +4,10 @@ use Rattle.std.proofs.lemmas.Option.{same_Some}
 use Rattle.bk_base.specs.Places.{Shape}
 use Rattle.bk_lce.specs.CacheTable.{Transition}
 use Rattle.bk_engine.specs.declared.parts.Choice.{Choice}
-use Rattle.bk_agents.specs.Parts.{engine_number}
-use Rattle.bk_agents.specs.Channels as channels
-use Rattle.bk_agents.specs.Channels.{Channel, ends_at}
+use Rattle.bk_system.specs.Routes.{engine_number}
+use Rattle.bk_system.specs.declared.channel.Channel.TheVariants as channels
+use Rattle.bk_system.specs.declared.channel.Channel.{Channel}
+use Rattle.bk_system.specs.Routes.{ends_at}
 use Rattle.bk_agents.specs.Local.{Local, cache_local, offered_channel, popped_channel, touched_by}
 use Rattle.bk_agents.proofs.SomeRow.{of-some}
 

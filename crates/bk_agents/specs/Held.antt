@@ -3,7 +3,7 @@ use Rattle.std.specs.Prelude.{◌≡◌, Option, Some, None}
 use Rattle.bk_msg.specs.declared.row.Row.{Row}
 use Rattle.bk_engine.specs.declared.parts.Head.{Head}
 use Rattle.bk_agents.specs.Parts.{Part, EnginePart}
-use Rattle.bk_agents.specs.Channels.{Channel}
+use Rattle.bk_system.specs.declared.channel.Channel.{Channel}
 use Rattle.bk_agents.specs.Local.{popped_channel}
 
 abbrev pub held_head : Part → Option Head

@@ -9,7 +9,8 @@ use Rattle.bk_system.specs.State.{State}
 use Rattle.bk_system.specs.Events.{row}
 use Rattle.bk_system.specs.Runs.{IsTightFrom}
 use Rattle.bk_agents.specs.Parts.{Part, part_of, agent_of}
-use Rattle.bk_agents.specs.Channels.{Channel, channel_of, channel_for, heads_of, begins_at, ends_at}
+use Rattle.bk_system.specs.declared.channel.Channel.{Channel}
+use Rattle.bk_system.specs.Routes.{channel_of, channel_for, heads_of, begins_at, ends_at}
 use Rattle.bk_agents.specs.Local.{Local, local_row, is_touched, channel_after, widened}
 use Rattle.bk_agents.specs.Walks.{Walks}
 use Rattle.bk_agents.specs.Held.{HoldsFirst}

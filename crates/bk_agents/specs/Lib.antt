@@ -1,5 +1,4 @@
 pub mod Parts
-pub mod Channels
 pub mod Local
 pub mod Walks
 pub mod Held

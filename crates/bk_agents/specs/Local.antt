@@ -20,8 +20,9 @@ use Rattle.bk_system.specs.Memory.{memory_after, answer_to}
 use Rattle.bk_system.specs.State.{State}
 use Rattle.bk_system.specs.Events.{Happening, is_choice, origins_of}
 use Rattle.bk_agents.specs.Parts.{Part, CachePart, EnginePart, MemoryPart, NoPart}
-use Rattle.bk_agents.specs.Channels as channels
-use Rattle.bk_agents.specs.Channels.{Channel, channel_of, channel_for, is_same}
+use Rattle.bk_system.specs.declared.channel.Channel.TheVariants as channels
+use Rattle.bk_system.specs.declared.channel.Channel.{Channel}
+use Rattle.bk_system.specs.Routes.{channel_of, channel_for, is_same}
 
 -- What an event leaves of its agent and does outside.
 pub record Local : Type 0 where

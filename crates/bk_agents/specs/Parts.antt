@@ -6,13 +6,8 @@ use Rattle.bk_engine.specs.Engine.{EngineState}
 use Rattle.bk_system.specs.declared.event.Event.{Event}
 use Rattle.bk_system.specs.declared.event.Event.TheVariants.{Issue, Command, Fill, Memory, Engine}
 use Rattle.bk_system.specs.State.{State}
+use Rattle.bk_system.specs.Routes.{engine_number, memory_number}
 use Rattle.bk_system.specs.Runs.{completed_by}
-
-abbrev pub engine_number : Shape → ℕ
-engine_number k = k.caches
-
-abbrev pub memory_number : Shape → ℕ
-memory_number k = k.caches + 1
 
 -- What an agent has: a cache its state, and how many of its operations stand in the history; the engine its own; the memory its words.
 pub data Part : Type 0 where

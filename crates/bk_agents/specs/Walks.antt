@@ -7,7 +7,7 @@ use Rattle.bk_msg.specs.declared.row.Row.{Row}
 use Rattle.bk_system.specs.declared.event.Event.{Event}
 use Rattle.bk_system.specs.Events.{first}
 use Rattle.bk_agents.specs.Parts.{Part, agent_of}
-use Rattle.bk_agents.specs.Channels.{Channel}
+use Rattle.bk_system.specs.declared.channel.Channel.{Channel}
 use Rattle.bk_agents.specs.Local.{Local, local_row, channel_after}
 
 -- each has a local row where it stands, which changes its agent's part and the channels

@@ -1,5 +1,5 @@
 -- The caches and ways that a message names are in the configuration.
-use Rattle.std.specs.Prelude.{ℕ, ◌<◌}
+use Rattle.std.specs.Prelude.{ℕ, ◌<◌, Bool, true, nat_lt, ◌&&◌}
 use Rattle.std.specs.Coded.{×_prop, Unit-prop, le_prop}
 use Rattle.bk_base.specs.Places.{Shape}
 use Rattle.bk_msg.specs.declared.row.Row.{Row}
@@ -34,6 +34,35 @@ IsWithin k (Read _ _ _) = Unit {0}
 IsWithin k (Write _ _ _ _) = Unit {0}
 IsWithin k (WriteWord _ _ _ _) = Unit {0}
 IsWithin k (Block _ _ _ _) = Unit {0}
+
+-- the same as a test
+
+abbrev pub is_way : Shape → ℕ → ℕ → Bool
+is_way k c w = nat_lt c k.caches && nat_lt w k.ways
+
+abbrev pub is_within : Shape → Row → Bool
+is_within k (Rd from _ way _) = is_way k from way
+is_within k (Wr from _ way _) = is_way k from way
+is_within k (UcRd from _ _) = nat_lt from k.caches
+is_within k (UcWr from _ _ _) = nat_lt from k.caches
+is_within k (Evict from _ way _) = is_way k from way
+is_within k (Inv _ to _) = nat_lt to k.caches
+is_within k (StWb _ to _ _) = nat_lt to k.caches
+is_within k (StTr _ to _ peer peer_way _ _) = nat_lt to k.caches && is_way k peer peer_way
+is_within k (Blk _ to way _ _ _) = is_way k to way
+is_within k (StWake _ to way _ _) = is_way k to way
+is_within k (UcBlk _ to _ _) = nat_lt to k.caches
+is_within k (UcDone _ to _) = nat_lt to k.caches
+is_within k (Done _ to _) = nat_lt to k.caches
+is_within k (Fill from to way _ _ _) = nat_lt from k.caches && is_way k to way
+is_within k (InvAck from _ _) = nat_lt from k.caches
+is_within k (CohAck from _ _) = nat_lt from k.caches
+is_within k (Wb from _ _ _) = nat_lt from k.caches
+is_within k (NullWb from _ _) = nat_lt from k.caches
+is_within k (Read _ _ _) = true
+is_within k (Write _ _ _ _) = true
+is_within k (WriteWord _ _ _ _) = true
+is_within k (Block _ _ _ _) = true
 
 -- that they are is a fact with one proof, as a ghost field wants it
 IsWay-prop : (k : Shape) (c w : ℕ) → IsProp (IsWay k c w)

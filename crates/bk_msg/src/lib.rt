@@ -11,6 +11,7 @@ mod makes;
 mod message;
 mod row;
 mod table;
+mod within;
 
 pub use codec::{Packet, decode, encode, one_spelling, spell};
 pub use fault::MsgFault;

@@ -36,8 +36,8 @@ fn if_enabled(hardware: &Hardware, program: &[Instr], event: Event) -> Option<Ev
     }
 }
 
-/// A cache with its next operation, if there is one and the cache may issue it. Whether it may doesn't depend on the way.
-fn ready_operation(
+/// A cache with its next operation in the trace, if there is one and the cache may issue it. Whether it may doesn't depend on the way.
+pub fn ready_operation(
     hardware: &Hardware,
     program: &[Instr],
     trace: &Trace,

@@ -13,8 +13,10 @@ mod serial_runs;
 mod system;
 
 pub use counts::Counts;
+pub use greedy::ready_operation;
 pub use logs::log;
 pub use reports::report;
+pub use schedule::{make_enabled, make_engine};
 pub use serial_runs::{
     LoggedRun, ReportedRun, RunEnd, SerialFault, budget, serial, serial_log, serial_report,
 };

@@ -26,9 +26,9 @@ use std::alloc::AllocError;
 // Each function answers the event that it has made. It answers none where none is enabled, and an error where memory runs out; then
 // nothing has changed.
 
-/// Makes an event, if it is enabled.
+/// Makes an event, if it is enabled, and answers it then. Where it isn't, or memory runs out, nothing has changed.
 #[inline(always)]
-fn make_enabled(
+pub fn make_enabled(
     hardware: &mut Hardware,
     program: &[Instr],
     event: Event,
@@ -176,9 +176,10 @@ fn make_head(
     make_of_class(hardware, program, classes, CLASS_REQUEST)
 }
 
-/// Makes the least Engine event.
+/// Makes the least Engine event: without a class, or of a response, the memory's answer or a request, by source. It answers the event, or
+/// none where none is enabled. Then, and where memory runs out, nothing has changed.
 #[inline(always)]
-fn make_engine(hardware: &mut Hardware, program: &[Instr]) -> Result<Option<Event>, AllocError>
+pub fn make_engine(hardware: &mut Hardware, program: &[Instr]) -> Result<Option<Event>, AllocError>
     requires { length program.now ≤ 256 }
     ensures made { Makes hardware.old.config program.now (least_engine hardware.old.config program.now (state_of hardware.old))
         (state_of hardware.old) (state_of hardware.new) hardware.new.sent.items result }

@@ -1,6 +1,7 @@
 pub mod Answered
 pub mod CacheList
 pub mod CacheRows
+pub mod Delivered
 pub mod Empty
 pub mod Entries
 pub mod Fills

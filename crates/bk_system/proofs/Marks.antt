@@ -11,7 +11,7 @@ use Rattle.bk_base.specs.Tables.{put}
 use Rattle.bk_base.specs.Counting.{all_below, is_nil}
 use Rattle.bk_base.proofs.Below.{all_below-fails, all_below-always}
 use Rattle.bk_msg.specs.declared.row.Row.{Row}
-use Rattle.bk_system.specs.declared.channel.Channel.{Channel}
+use Rattle.bk_system.specs.declared.queue.Queue.{Queue}
 use Rattle.bk_system.specs.declared.channels.Channels.{Channels}
 use Rattle.bk_system.specs.Channels.{queue, channel_count, IsNext}
 use Rattle.bk_system.specs.Queues.{items_of, queues_of, mark_of, AreMarks}
@@ -35,7 +35,7 @@ mark-holds [] empty e = rw e refl
 mark-holds (m ∷ ms) empty e = rw e refl
 
 -- the marks once one channel was changed
-pub marks-changed : (n later : ℕ) (xs : List Channel) (c : ℕ) (q : Channel) (v : ℕ) → c < length xs → v ≡ mark_of (items_of q)
+pub marks-changed : (n later : ℕ) (xs : List Queue) (c : ℕ) (q : Queue) (v : ℕ) → c < length xs → v ≡ mark_of (items_of q)
     → AreMarks n (queues_of xs) → ((j : ℕ) → j < 64 → bit_at later j ≡ put (bit_at n) c v j)
     → AreMarks later (queues_of (set xs c q))
 unfolding put

@@ -17,7 +17,7 @@ use Rattle.bk_msg.specs.declared.row.Row.{Row}
 use Rattle.bk_msg.specs.Within.{IsWithin}
 use Rattle.bk_base.specs.Tables.{put}
 use Rattle.bk_system.specs.declared.channels.Channels.{Channels}
-use Rattle.bk_system.specs.declared.channel.Channel.{Channel}
+use Rattle.bk_system.specs.declared.queue.Queue.{Queue}
 use Rattle.bk_system.specs.Queues.{items_of, room_of, queues_of, EachWithin, AreWithin}
 use Rattle.bk_system.specs.Channels.{queue, room}
 
@@ -77,19 +77,19 @@ pub put_other : {X : Type 0} (f : ℕ → X) (number : ℕ) (x : X) (j : ℕ) �
 unfolding put
 put_other f k x j n = grind (arith, nat_tests)
 
-pub queue-set : (a b : Channels) (c : ℕ) (q : Channel) → b.queues.items ≡ set a.queues.items c q → c < vec_len a.queues
+pub queue-set : (a b : Channels) (c : ℕ) (q : Queue) → b.queues.items ≡ set a.queues.items c q → c < vec_len a.queues
     → queue b ≡ put (queue a) c (items_of q)
 unfolding queue
 queue-set a b c q e l =
     let lt : c < length a.queues.items = omega (arith, a.queues.ok.0) in
-    ap (λ (qs : List Channel). at items_of [] qs) e ∙ table-set items_of [] a.queues.items c q lt
+    ap (λ (qs : List Queue). at items_of [] qs) e ∙ table-set items_of [] a.queues.items c q lt
 
 -- the channel whose queue was changed
-pub queue-at : (a b : Channels) (c : ℕ) (q : Channel) → b.queues.items ≡ set a.queues.items c q → c < vec_len a.queues
+pub queue-at : (a b : Channels) (c : ℕ) (q : Queue) → b.queues.items ≡ set a.queues.items c q → c < vec_len a.queues
     → queue b c ≡ items_of q
 queue-at a b c q e l = ap (λ (f : ℕ → List Row). f c) (queue-set a b c q e l) ∙ put_at (queue a) c (items_of q)
 
-pub queue-item : (a : Channels) (c : ℕ) (q : Channel) → c < vec_len a.queues → q ≡ get_or a.queues.items c q
+pub queue-item : (a : Channels) (c : ℕ) (q : Queue) → c < vec_len a.queues → q ≡ get_or a.queues.items c q
     → queue a c ≡ items_of q
 unfolding queue
 queue-item a c q l e =
@@ -118,15 +118,15 @@ at-more f d (y ∷ ys) x e h (suc number) = at-more f d ys x e (λ j. h (suc j))
 
 -- ROOM
 
-pub room-set : (a b : Channels) (c : ℕ) (q : Channel) → b.queues.items ≡ set a.queues.items c q → c < vec_len a.queues
+pub room-set : (a b : Channels) (c : ℕ) (q : Queue) → b.queues.items ≡ set a.queues.items c q → c < vec_len a.queues
     → room b ≡ put (room a) c (room_of q)
 unfolding room
 room-set a b c q e l =
     let lt : c < length a.queues.items = omega (arith, a.queues.ok.0) in
-    ap (λ (qs : List Channel). at room_of 0 qs) e
+    ap (λ (qs : List Queue). at room_of 0 qs) e
     ∙ table-set room_of 0 a.queues.items c q lt
 
-pub room-item : (a : Channels) (c : ℕ) (q : Channel) → c < vec_len a.queues → q ≡ get_or a.queues.items c q
+pub room-item : (a : Channels) (c : ℕ) (q : Queue) → c < vec_len a.queues → q ≡ get_or a.queues.items c q
     → room a c ≡ room_of q
 unfolding room
 room-item a c q l e =
@@ -158,24 +158,24 @@ put-le f number v n l j = near (eqb j number) (λ e. ap f (same j number e))
     near false e = omega arith
 
 -- the room of a channel whose queue was changed
-pub room-at : (a b : Channels) (c : ℕ) (q : Channel) → b.queues.items ≡ set a.queues.items c q → c < vec_len a.queues
+pub room-at : (a b : Channels) (c : ℕ) (q : Queue) → b.queues.items ≡ set a.queues.items c q → c < vec_len a.queues
     → room b c ≡ room_of q
 room-at a b c q e l = ap (λ (f : ℕ → ℕ). f c) (room-set a b c q e l) ∙ put_at (room a) c (room_of q)
 
 -- a channel whose queue has lost at most n of its room
-pub room-changed : (a b : Channels) (c : ℕ) (q : Channel) (n : ℕ) → b.queues.items ≡ set a.queues.items c q → c < vec_len a.queues
+pub room-changed : (a b : Channels) (c : ℕ) (q : Queue) (n : ℕ) → b.queues.items ≡ set a.queues.items c q → c < vec_len a.queues
     → room a c ≤ room_of q + n → (j : ℕ) → room a j ≤ room b j + n
 room-changed a b c q n e l le j =
     subst (λ (f : ℕ → ℕ). room a j ≤ f j + n) (sym (room-set a b c q e l))
     (put-le (room a) c (room_of q) n le j)
 
 -- a channel whose queue has lost none of its room
-pub room-kept : (a b : Channels) (c : ℕ) (q : Channel) → b.queues.items ≡ set a.queues.items c q → c < vec_len a.queues
+pub room-kept : (a b : Channels) (c : ℕ) (q : Queue) → b.queues.items ≡ set a.queues.items c q → c < vec_len a.queues
     → room a c ≤ room_of q → (j : ℕ) → room a j ≤ room b j
 room-kept a b c q e l le j = let same : room a j ≤ room b j + 0 = room-changed a b c q 0 e l (omega arith) j in omega arith
 
 -- a channel whose queue was given room
-pub room-made : {E : Type 0} (a b : Channels) (c : ℕ) (q : Channel) (more : ℕ) (r : Result ⊤ E)
+pub room-made : {E : Type 0} (a b : Channels) (c : ℕ) (q : Queue) (more : ℕ) (r : Result ⊤ E)
     → b.queues.items ≡ set a.queues.items c q
     → c < vec_len a.queues → OnOk r (more ≤ room_of q) → OnOk r (more ≤ room b c)
 room-made a b c q more (Ok _) e l h = let is : room b c ≡ room_of q = room-at a b c q e l in omega arith
@@ -187,13 +187,13 @@ cond-within : (k : Shape) (b : Bool) (xs ys : List Row) → EachWithin k xs → 
 cond-within k true xs ys p q = p
 cond-within k false xs ys p q = q
 
-pub within-set : (k : Shape) (xs : List Channel) (c : ℕ) (q : Channel) → c < length xs → AreWithin k (queues_of xs)
+pub within-set : (k : Shape) (xs : List Queue) (c : ℕ) (q : Queue) → c < length xs → AreWithin k (queues_of xs)
     → EachWithin k (items_of q)
     → AreWithin k (queues_of (set xs c q))
 within-set k xs c q l h p j =
     subst (EachWithin k) (sym (at-set items_of [] xs c q j l)) (cond-within k (eqb j c) (items_of q) (queues_of xs j) p (h j))
 
-pub within-item : (k : Shape) (xs : List Channel) (c : ℕ) (q : Channel) → c < length xs → q ≡ get_or xs c q
+pub within-item : (k : Shape) (xs : List Queue) (c : ℕ) (q : Queue) → c < length xs → q ≡ get_or xs c q
     → AreWithin k (queues_of xs)
     → EachWithin k (items_of q)
 within-item k xs c q l e h = subst (EachWithin k) (at-item items_of [] xs c q l e) (h c)

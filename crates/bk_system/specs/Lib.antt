@@ -1,6 +1,7 @@
 pub mod Bits
 pub mod CacheStates
 pub mod Channels
+pub mod Deliveries
 pub mod EventCalls
 pub mod Events
 pub mod Lawful
@@ -10,6 +11,7 @@ pub mod Needs
 pub mod Next
 pub mod Numbering
 pub mod Queues
+pub mod Routes
 pub mod Runs
 pub mod State
 pub mod Systems

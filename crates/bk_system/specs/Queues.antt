@@ -8,22 +8,22 @@ use Rattle.std.specs.VecDeque.{deque_len, deque_capacity}
 use Rattle.bk_base.specs.Places.{Shape}
 use Rattle.bk_msg.specs.declared.row.Row.{Row}
 use Rattle.bk_msg.specs.Within.{IsWithin, IsWithin-prop}
-use Rattle.bk_system.specs.declared.channel.Channel.{Channel}
+use Rattle.bk_system.specs.declared.queue.Queue.{Queue}
 
 -- what a channel holds, the oldest message first: those of its ring, then those of its list
-abbrev pub items_of : Channel → List Row
+abbrev pub items_of : Queue → List Row
 items_of q = q.ring.items ++ q.list.items
 
 -- how many more messages a channel takes without memory
-abbrev pub room_of : Channel → ℕ
+abbrev pub room_of : Queue → ℕ
 room_of q = (16 - length q.ring.items) + (deque_capacity q.list - deque_len q.list)
 
 -- what the channel of a number holds, the oldest message first; nothing where there is no such channel
-abbrev pub queues_of : List Channel → ℕ → List Row
+abbrev pub queues_of : List Queue → ℕ → List Row
 queues_of queues c = option_map_or items_of (slice_get queues c) []
 
 -- how many more messages the channel of a number takes without memory
-abbrev pub rooms_of : List Channel → ℕ → ℕ
+abbrev pub rooms_of : List Queue → ℕ → ℕ
 rooms_of queues c = option_map_or room_of (slice_get queues c) 0
 
 -- each message of a list is within the configuration

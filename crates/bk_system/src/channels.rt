@@ -6,7 +6,7 @@ ghost use Rattle.bk_msg.specs.Within.{IsWithin};
 ghost use Rattle.bk_system.specs.Queues.{queues_of, AreWithin, AreWithin-prop, AreMarks};
 
 use crate::bits::{first_bit, marked};
-use crate::channel::Channel;
+use crate::queue::Queue;
 use bk_base::Config;
 use bk_msg::Message;
 use std::alloc::{AllocError, Global};
@@ -16,7 +16,7 @@ use std::alloc::{AllocError, Global};
 #[derive(Drop)]
 pub struct Channels {
     pub(crate) config: Config,
-    queues: Vec<Channel>,
+    queues: Vec<Queue>,
     /// Bit c is set where channel c holds a message.
     marks: u64,
     ghost few: { vec_len queues ≤ 64 },
@@ -36,7 +36,7 @@ impl Channels {
     {
         let mut queues = Vec::new(alloc);
         for _ in 0..count {
-            queues.push(Channel::make(alloc)?)?;
+            queues.push(Queue::make(alloc)?)?;
         }
         Ok(Channels {
             config,

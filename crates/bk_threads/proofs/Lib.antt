@@ -4,3 +4,7 @@ pub mod Taking
 pub mod Running
 pub mod Walking
 pub mod SystemRunning
+pub mod RoundSteps
+pub mod RoundWalks
+pub mod RoundStates
+pub mod Rounds

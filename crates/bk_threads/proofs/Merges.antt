@@ -87,11 +87,12 @@ no_tie entry other differ = false_from_ne_true (ties is_before entry other) (λ 
 
 -- ONE AGENT'S OWN
 
-own-is : (n : ℕ) (entry : Entry) (entries : List Entry) → entry.agent ≡ n
+pub own-is : (n : ℕ) (entry : Entry) (entries : List Entry) → entry.agent ≡ n
     → own n (entry ∷ entries) ≡ stamped entry ∷ own n entries
 own-is n entry entries same = ap (λ (b : Bool). if b then stamped entry ∷ own n entries else own n entries) (eq-eqb entry.agent n same)
 
-own-other : (n : ℕ) (entry : Entry) (entries : List Entry) → (entry.agent ≡ n → ⊥) → own n (entry ∷ entries) ≡ own n entries
+pub own-other : (n : ℕ) (entry : Entry) (entries : List Entry) → (entry.agent ≡ n → ⊥)
+    → own n (entry ∷ entries) ≡ own n entries
 own-other n entry entries differ = ap
     (λ (b : Bool). if b then stamped entry ∷ own n entries else own n entries) (ne_eqb entry.agent n differ)
 
@@ -247,6 +248,11 @@ ties_at_stamp x entry = whether (cases_order entry.stamp x.stamp)
 ties_are : (x : Stamped) (entries : List Stamped) → filter (ties is_earlier x) entries ≡ at_stamp x.stamp entries
 ties_are x entries = λ i. filter (λ entry. ties_at_stamp x entry i) entries
 
+-- an entry that may stand before another has no later stamp
+pub no_later : (entry later : Entry) → MayPrecede entry later → entry.stamp ≤ later.stamp
+no_later entry later (inl a) = omega (arith, a)
+no_later entry later (inr a) = omega (arith, a.0)
+
 own_later : (n : ℕ) (x : Entry) (entries : List Entry) → AllByRecursion (MayPrecede x) entries
     → AllByRecursion (λ entry. x.stamp ≤ entry.stamp) (own n entries)
 own_later n x [] all = tt
@@ -255,11 +261,7 @@ own_later n x (entry ∷ entries) all = whether (cases_eq entry.agent n) (own_la
     whether : (entry.agent ≡ n) ⊎ (entry.agent ≡ n → ⊥) → AllByRecursion (λ other. x.stamp ≤ other.stamp) (own n entries)
         → AllByRecursion (λ other. x.stamp ≤ other.stamp) (own n (entry ∷ entries))
     whether (inl same) rest = subst (AllByRecursion
-        (λ (other : Stamped). x.stamp ≤ other.stamp)) (sym (own-is n entry entries same)) (no_later all.0, rest)
-      where
-        no_later : MayPrecede x entry → x.stamp ≤ entry.stamp
-        no_later (inl a) = omega (arith, a)
-        no_later (inr a) = omega (arith, a.0)
+        (λ (other : Stamped). x.stamp ≤ other.stamp)) (sym (own-is n entry entries same)) (no_later x entry all.0, rest)
     whether (inr apart) rest = subst (AllByRecursion
         (λ (other : Stamped). x.stamp ≤ other.stamp)) (sym (own-other n entry entries apart)) rest
 

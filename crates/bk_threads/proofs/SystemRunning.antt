@@ -9,7 +9,8 @@ use Rattle.bk_base.specs.Tables.{put}
 use Rattle.bk_isa.specs.declared.form.Form.{Form}
 use Rattle.bk_msg.specs.declared.row.Row.{Row}
 use Rattle.bk_agents.specs.Parts.{Part, part_of, agent_of}
-use Rattle.bk_agents.specs.Channels.{Channel, channel_of, is_same}
+use Rattle.bk_system.specs.declared.channel.Channel.{Channel}
+use Rattle.bk_system.specs.Routes.{channel_of, is_same}
 use Rattle.bk_agents.specs.Local.{Local, local_row, is_touched, sent_on, channel_after}
 use Rattle.bk_agents.specs.Walks.{Walks}
 use Rattle.bk_agents.proofs.Heads.{one-head-counts}
@@ -23,13 +24,13 @@ use Rattle.bk_threads.specs.Laws.{SystemIsLocal, SystemRuns}
 use Rattle.bk_threads.proofs.Walking.{with_part-same, with_part-other}
 
 -- what the rules say of an event, they say by its local row
-record HasRow (k : Shape) (n : ℕ) (entry : Stamped) (o : Option Local) (effect : Effect Channel Part Row) : Type 0 where
-  own : agent_of k entry.event ≡ n
-  local : Local
-  found : o ≡ Some local
-  same : effect_of n entry.stamp local ≡ effect
+pub record HasRow (k : Shape) (n : ℕ) (entry : Stamped) (o : Option Local) (effect : Effect Channel Part Row) : Type 0 where
+  pub own : agent_of k entry.event ≡ n
+  pub local : Local
+  pub found : o ≡ Some local
+  pub same : effect_of n entry.stamp local ≡ effect
 
-has_row : (k : Shape) (n : ℕ) (entry : Stamped) (o : Option Local) (effect : Effect Channel Part Row)
+pub has_row : (k : Shape) (n : ℕ) (entry : Stamped) (o : Option Local) (effect : Effect Channel Part Row)
     → (if eqb (agent_of k entry.event) n then option_map (effect_of n entry.stamp) o else None) ≡ Some effect
     → HasRow k n entry o effect
 has_row k n entry o effect = whether (eqb (agent_of k entry.event) n) o refl
@@ -62,7 +63,7 @@ system_local k program = (
 
 -- PARTS AND CHANNELS AFTER A STEP
 
-parts_same : (parts others : ℕ → Part) (a n : ℕ) (part new : Part) → a ≡ n → part ≡ new
+pub parts_same : (parts others : ℕ → Part) (a n : ℕ) (part new : Part) → a ≡ n → part ≡ new
     → ((i : ℕ) → others i ≡ parts i) → (i : ℕ) → put others a part i ≡ with_part parts n new i
 unfolding put
 parts_same parts others a n part new own e same i = whether (cases_eq n i)
@@ -104,7 +105,7 @@ grown_same contents channels n stamp local channel e =
     left = if local.pops then (if is_at is_same local.touched channel then drop 1 (channels channel) else channels channel)
         else channels channel
 
-channels_same : (contents : Channel → List Row) (channels : Channels Channel Row) (a n stamp : ℕ) (local : Local)
+pub channels_same : (contents : Channel → List Row) (channels : Channels Channel Row) (a n stamp : ℕ) (local : Local)
     (effect : Effect Channel Part Row) → a ≡ n → effect_of n stamp local ≡ effect
     → ((channel : Channel) → contents channel ≡ messages_of (channels channel))
     → (channel : Channel) → channel_after contents a local channel ≡ messages_of (after_effect is_same effect channels channel)

@@ -6,13 +6,16 @@ use Rattle.bk_msg.specs.declared.row.Row.{Row}
 use Rattle.bk_system.specs.declared.event.Event.{Event}
 use Rattle.bk_system.specs.State.{State}
 use Rattle.bk_system.specs.Runs.{IsTightFrom}
-use Rattle.bk_agents.specs.Parts.{part_of}
-use Rattle.bk_agents.specs.Channels.{Channel, channel_of, is_same}
+use Rattle.bk_agents.specs.Parts.{Part, part_of}
+use Rattle.bk_system.specs.declared.channel.Channel.{Channel}
+use Rattle.bk_system.specs.Routes.{channel_of, is_same, ends_at}
+use Rattle.bk_threads.specs.declared.merging.Stamped.{Stamped}
 use Rattle.bk_threads.specs.declared.merging.Journal.{Journal}
 use Rattle.bk_threads.specs.Journals.{entries_of, own, IsMerge}
 use Rattle.bk_threads.specs.Agents.{Step, Rules, Channels, IsLocal, TellsChannels, sent_by, steps_of}
 use Rattle.bk_threads.specs.Walks.{WalksAlone, Walks, Runs, part_after, parts_after, streams_after, channels_after, AreByStamp, SendsItsStamp, SendNothingEarlier}
 use Rattle.bk_threads.specs.System.{SystemStep, messages_of, system_rules, step_event}
+use Rattle.bk_threads.specs.Rounds.{IsWalkOf, IsRound, ComesTo, HoldsAlone, HoldsFrom}
 
 -- MERGES
 
@@ -85,3 +88,22 @@ SystemRuns = (k : Shape) (program : List Form) (s : State) (channels : Channels 
     → ((channel : Channel) → messages_of (channels channel) ≡ channel_of s channel)
     → Runs is_same (system_rules k program) (part_of k s) channels steps
     → IsTightFrom k program s (map step_event steps)
+
+-- ROUNDS
+
+-- The merge of a round's journals is a list of events that the round comes to.
+abbrev pub RoundsRun : Type 0
+RoundsRun = (k : Shape) (program : List Form) (s : State) (journals : List Journal) (events : List Event)
+    → (round : IsRound k program s journals) → IsMerge journals events → ComesTo k program s journals round events
+
+-- What holds at each step of each agent alone holds at each event of the merge.
+abbrev pub RoundsKeep : (Part → Event → Type 0) → Type 0
+RoundsKeep Holds = (k : Shape) (program : List Form) (s : State) (journals : List Journal) (events : List Event)
+    → (round : IsRound k program s journals) → IsMerge journals events → ((n : ℕ) → HoldsAlone Holds (part_of k s n) (round.steps n))
+    → HoldsFrom Holds k program s events
+
+-- A walk hangs on the streams alone that lead to its agent.
+abbrev pub WalksHeed : Type 0
+WalksHeed = (k : Shape) (program : List Form) (n : ℕ) (part : Part) (streams others : Channels Channel Row) (entries : List Stamped)
+    (steps : List SystemStep) → ((channel : Channel) → ends_at k channel ≡ n → others channel ≡ streams channel)
+    → IsWalkOf k program n part streams entries steps → IsWalkOf k program n part others entries steps

@@ -5,7 +5,7 @@ use Rattle.bk_isa.specs.declared.form.Form.{Form}
 use Rattle.bk_msg.specs.declared.row.Row.{Row}
 use Rattle.bk_system.specs.declared.event.Event.{Event}
 use Rattle.bk_agents.specs.Parts.{Part, agent_of}
-use Rattle.bk_agents.specs.Channels.{Channel}
+use Rattle.bk_system.specs.declared.channel.Channel.{Channel}
 use Rattle.bk_agents.specs.Local.{Local, local_row, sent_on}
 use Rattle.bk_threads.specs.declared.merging.Stamped.{Stamped}
 use Rattle.bk_threads.specs.Agents.{Packet, Effect, Step, Rules}

@@ -1,4 +1,4 @@
-ghost use Rattle.bk_threads.specs.Laws.{OneMerge, JournalsStand, WalksGoOn, WalksJoin, StampsOrder, WalksRun, ChannelsAfter, PartsAfter, SystemIsLocal, SystemRuns};
+ghost use Rattle.bk_threads.specs.Laws.{OneMerge, JournalsStand, WalksGoOn, WalksJoin, StampsOrder, WalksRun, ChannelsAfter, PartsAfter, SystemIsLocal, SystemRuns, RoundsRun, WalksHeed};
 
 /// Journals have one merge, whatever the order in which they stand. Where no stamp in an agent's journal is below one before it, the merge
 /// has that journal's entries in their order.
@@ -25,4 +25,11 @@ pub fn walk_laws<Channel, Part, Event, Message>()
 pub fn system_laws()
     ensures local { SystemIsLocal }
     ensures run { SystemRuns }
+{}
+
+/// Each agent works alone in a round, on what its channels bring it. The merge of the journals is then a list of events that were all
+/// enabled where they stand, and it leaves each agent's part and each channel as the agents left them.
+pub fn round_laws()
+    ensures run { RoundsRun }
+    ensures heed { WalksHeed }
 {}

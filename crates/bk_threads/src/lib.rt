@@ -7,7 +7,7 @@
 mod agents;
 mod merging;
 
-pub use agents::{merge_laws, walk_laws};
+pub use agents::{merge_laws, round_laws, system_laws, walk_laws};
 pub use merging::{Journal, Stamped, merge};
 
 #[cfg(test)]

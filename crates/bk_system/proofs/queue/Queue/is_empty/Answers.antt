@@ -2,7 +2,7 @@ use Rattle.std.proofs.Common.{◌≡◌, ◌<◌, ◌++◌, [], ◌∷◌, ℕ, 
 use Rattle.std.specs.Prelude.{◌==◌}
 use Rattle.std.proofs.lemmas.Bool.Decides.{nat_tests}
 use Rattle.bk_base.specs.Counting.{is_nil}
-use Rattle.bk_system.proofs.channel.Channel.is_empty.Goals as goal
+use Rattle.bk_system.proofs.queue.Queue.is_empty.Goals as goal
 
 -- the list after the ring is empty where the ring is
 parts-nil : {X : Type 0} (xs ys : List X) (n : ℕ) → n ≡ length ys → (0 < n → length xs ≡ 16)

@@ -1,5 +1,6 @@
--- The channels of a system as values, at which agent each begins and ends, and on which one a message goes.
-use Rattle.std.specs.Prelude.{ℕ, Bool, true, false, ◌&&◌, ◌==◌, List, Option}
+-- The channels between the agents of a system: what a state has in each, at which agent it begins and ends, and on which one a message
+-- goes. The agents have numbers: the caches theirs, then the engine, then the memory.
+use Rattle.std.specs.Prelude.{ℕ, ◌+◌, ◌<◌, Bool, true, false, ◌&&◌, ◌==◌, List, Option}
 use Rattle.bk_base.specs.Places.{Shape}
 use Rattle.bk_msg.specs.declared.row.Row.{Row}
 use Rattle.bk_msg.specs.declared.row.Network.{Network}
@@ -7,16 +8,14 @@ use Rattle.bk_msg.specs.declared.row.Network.TheVariants as networks
 use Rattle.bk_msg.specs.Networks.{network_of, receiver_of}
 use Rattle.bk_system.specs.State.{State}
 use Rattle.bk_system.specs.Events.{first}
-use Rattle.bk_agents.specs.Parts.{engine_number, memory_number}
+use Rattle.bk_system.specs.declared.channel.Channel.{Channel}
+use Rattle.bk_system.specs.declared.channel.Channel.TheVariants.{Request, Command, Fill, Response, Memout, Memin}
 
--- By network, and within it by the cache that it is from or to.
-pub data Channel : Type 0 where
-  Request : (from : ℕ) → Channel
-  Command : (to : ℕ) → Channel
-  Fill : (to from : ℕ) → Channel
-  Response : (from : ℕ) → Channel
-  Memout : Channel
-  Memin : Channel
+abbrev pub engine_number : Shape → ℕ
+engine_number k = k.caches
+
+abbrev pub memory_number : Shape → ℕ
+memory_number k = k.caches + 1
 
 -- what a system's state has in a channel
 abbrev pub channel_of : State → Channel → List Row
@@ -70,3 +69,12 @@ channel_in networks.Memin from to = Memin
 -- the channel on which an agent's message goes
 abbrev pub channel_for : ℕ → Row → Channel
 channel_for n m = channel_in (network_of m) n (receiver_of m)
+
+-- it is between agents of the configuration
+abbrev pub IsChannel : Shape → Channel → Type 0
+IsChannel k (Request from) = from < k.caches
+IsChannel k (Command to) = to < k.caches
+IsChannel k (Fill to from) = (to < k.caches) × (from < k.caches)
+IsChannel k (Response from) = from < k.caches
+IsChannel k Memout = Unit {0}
+IsChannel k Memin = Unit {0}
