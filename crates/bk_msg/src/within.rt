@@ -27,7 +27,10 @@ impl Message {
             Row::Inv { to, .. } => to < config.caches,
             Row::StWb { to, .. } => to < config.caches,
             Row::StTr {
-                to, peer, peer_way, ..
+                to,
+                peer,
+                peer_way,
+                ..
             } => to < config.caches && is_way(config, peer, peer_way),
             Row::Blk { to, way, .. } => is_way(config, to, way),
             Row::StWake { to, way, .. } => is_way(config, to, way),

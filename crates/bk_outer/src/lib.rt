@@ -2,6 +2,7 @@
 #![tactic(auto)]
 
 mod file_shelf;
+mod gate;
 mod logs;
 mod mem_shelf;
 mod mem_sink;
@@ -10,6 +11,7 @@ mod sink;
 mod std_sink;
 
 pub use file_shelf::FileShelf;
+pub use gate::{Free, Gate};
 pub use mem_shelf::MemShelf;
 pub use mem_sink::MemSink;
 pub use shelf::{FILE_LIMIT, ReadAnswer, Shelf};

@@ -149,10 +149,6 @@ pub command-skipped : (k : Shape) (program : List Form) (s : State) (c : ℕ) �
     → if_enabled k program s (Command c) ≡ None
 command-skipped k program s c h = command-empty k program s c (unfilled (s.command c) h)
 
-pub memory-skipped : (k : Shape) (program : List Form) (s : State) → is_filled s.memout ≡ false
-    → if_enabled k program s Memory ≡ None
-memory-skipped k program s h = rowless k program s Memory (ap (λ ms. access_row s (first ms)) (unfilled s.memout h))
-
 -- a fill channel that is passed over is empty, or not one between two of the caches
 fill-passed : {X : Type 0} (to from : Bool) (ms : List Row) (g : Option Row → Option X) → g None ≡ None
     → (to && from && is_filled ms) ≡ false → (if to && from then g (first ms) else None) ≡ None
@@ -187,9 +183,9 @@ head-skipped k program s classes class c here which h =
     class-empty k program s classes class c here (head-none s class c which h)
 
 pub answer-skipped : (k : Shape) (program : List Form) (s : State) (classes : ℕ)
-    → slice_get program s.engine.core.place ≡ Some (Wfq classes) → is_filled s.memin ≡ false
+    → slice_get program s.engine.core.place ≡ Some (Wfq classes) → first s.memin ≡ None
     → engine_event k program s CLASS_MEMORY 0 ≡ None
-answer-skipped k program s classes here h = class-empty k program s classes CLASS_MEMORY 0 here (no-head s.memin h)
+answer-skipped k program s classes here h = class-empty k program s classes CLASS_MEMORY 0 here h
 
 -- THE FILLS by receiver and sender, as those of their places
 

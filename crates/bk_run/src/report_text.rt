@@ -123,7 +123,7 @@ fn push_set(out: &mut String, hardware: &Hardware, cache: u8, set: u8) -> Result
         ++ set_text hardware.now.config (state_of hardware.now).caches cache set) }
 {
     for way in 0..hardware.config().ways {
-        let line = hardware.line(cache, set, way);
+        let line = hardware.cache(cache).line(set, way);
         push_line(out, cache, set, way, &line)?;
     }
     Ok(())

@@ -19,7 +19,7 @@ use bk_base::group_of;
 use bk_engine::{CLASS_MEMORY, CLASS_NONE, CLASS_REQUEST, CLASS_RESPONSE, Choice, names_class};
 use bk_isa::Instr;
 use bk_lce::{Victim, WayView, address_of};
-use bk_system::{Event, FILL_CHANNELS, Hardware, SENDERS};
+use bk_system::{Channel, Event, FILL_CHANNELS, Hardware, SENDERS};
 use bk_trace::Trace;
 use std::alloc::AllocError;
 
@@ -145,7 +145,7 @@ fn make_answer(
     if !names_class(classes, CLASS_MEMORY) {
         return Ok(None);
     }
-    if !hardware.has_memin() {
+    if hardware.head(Channel::Memin).is_none() {
         return Ok(None);
     }
     make_choice(hardware, program, CLASS_MEMORY, 0)

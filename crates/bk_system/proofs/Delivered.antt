@@ -7,6 +7,7 @@ use Rattle.bk_base.specs.Tables.{put}
 use Rattle.bk_msg.specs.declared.row.Row.{Row}
 use Rattle.bk_system.specs.Channels.{queue}
 use Rattle.bk_system.specs.Deliveries.{Holds}
+use Rattle.bk_system.specs.Events.{first}
 use Rattle.bk_system.specs.Numbering.{fill_place, fills_of}
 use Rattle.bk_system.specs.Queues.{EachWithin}
 use Rattle.bk_system.specs.Routes.{channel_of, is_same, IsChannel}
@@ -17,6 +18,7 @@ use Rattle.bk_system.specs.declared.hardware.Hardware.{Hardware}
 use Rattle.bk_system.specs.declared.channel.Channel.{Channel}
 use Rattle.bk_system.specs.declared.channel.Channel.TheVariants as channels
 use Rattle.bk_system.proofs.Fills.{fills-at, fills-put}
+use Rattle.bk_system.proofs.Queues.{put_at}
 
 put-is : {X : Type 0} (f : ℕ → X) (c i : ℕ) (v : X) → put f c v i ≡ cond (eqb c i) v (f i)
 unfolding put
@@ -33,7 +35,7 @@ put-of-two f to from i j v = cond-at (eqb i to) (λ n. cond (eqb n from) v (f to
 
 -- A CHANNEL OF EACH NETWORK
 
-pub request-holds : (s : State) (f : ℕ → List Row) (from : ℕ) (ms : List Row) → f ≡ put s.request from ms
+request-holds : (s : State) (f : ℕ → List Row) (from : ℕ) (ms : List Row) → f ≡ put s.request from ms
     → Holds s (record s { request = f }) (channels.Request from) ms
 request-holds s f from ms e = record {
   channels = found;
@@ -54,7 +56,7 @@ request-holds s f from ms e = record {
     found channels.Memout = refl
     found channels.Memin = refl
 
-pub command-holds : (s : State) (f : ℕ → List Row) (to : ℕ) (ms : List Row) → f ≡ put s.command to ms
+command-holds : (s : State) (f : ℕ → List Row) (to : ℕ) (ms : List Row) → f ≡ put s.command to ms
     → Holds s (record s { command = f }) (channels.Command to) ms
 command-holds s f to ms e = record {
   channels = found;
@@ -75,7 +77,7 @@ command-holds s f to ms e = record {
     found channels.Memout = refl
     found channels.Memin = refl
 
-pub response-holds : (s : State) (f : ℕ → List Row) (from : ℕ) (ms : List Row) → f ≡ put s.response from ms
+response-holds : (s : State) (f : ℕ → List Row) (from : ℕ) (ms : List Row) → f ≡ put s.response from ms
     → Holds s (record s { response = f }) (channels.Response from) ms
 response-holds s f from ms e = record {
   channels = found;
@@ -96,7 +98,7 @@ response-holds s f from ms e = record {
     found channels.Memout = refl
     found channels.Memin = refl
 
-pub fill-holds : (s : State) (f : ℕ → ℕ → List Row) (to from : ℕ) (ms : List Row) → f ≡ put s.fill to (put (s.fill to) from ms)
+fill-holds : (s : State) (f : ℕ → ℕ → List Row) (to from : ℕ) (ms : List Row) → f ≡ put s.fill to (put (s.fill to) from ms)
     → Holds s (record s { fill = f }) (channels.Fill to from) ms
 fill-holds s f to from ms e = record {
   channels = found;
@@ -117,7 +119,7 @@ fill-holds s f to from ms e = record {
     found channels.Memout = refl
     found channels.Memin = refl
 
-pub memout-holds : (s : State) (f : List Row) (ms : List Row) → f ≡ ms
+memout-holds : (s : State) (f : List Row) (ms : List Row) → f ≡ ms
     → Holds s (record s { memout = f }) channels.Memout ms
 memout-holds s f ms e = record {
   channels = found;
@@ -138,7 +140,7 @@ memout-holds s f ms e = record {
     found channels.Memout = e
     found channels.Memin = refl
 
-pub memin-holds : (s : State) (f : List Row) (ms : List Row) → f ≡ ms
+memin-holds : (s : State) (f : List Row) (ms : List Row) → f ≡ ms
     → Holds s (record s { memin = f }) channels.Memin ms
 memin-holds s f ms e = record {
   channels = found;
@@ -164,28 +166,90 @@ pub on-ok : {X E : Type 0} {P Q : Type 0} (r : Result X E) → (P → Q) → OnO
 on-ok (Ok x) f p = f p
 on-ok (Err e) f p = p
 
--- a channel to a cache from another, by its place among all
-pub fill-changed : (s : State) (q old : ℕ → List Row) (place to from : ℕ) (change : List Row → List Row) → to < 8 → from < 8
-    → s.fill ≡ fills_of old → place ≡ fill_place to from → q ≡ put old place (change (old place))
-    → Holds s (record s { fill = fills_of q }) (channels.Fill to from) (change (s.fill to from))
-fill-changed s q old place to from change a b same at e =
-    fill-holds s (fills_of q) to from (change (s.fill to from))
-    (ap fills_of (e ∙ ap (λ (n : ℕ). put old n (change (old n))) at)
-    ∙ fills-put old to from (change (old (fill_place to from))) a b
-    ∙ ap (λ (f : ℕ → ℕ → List Row). put f to (put (f to) from (change (old (fill_place to from))))) (sym same)
-    ∙ ap (λ (ms : List Row). put s.fill to (put (s.fill to) from (change ms)))
-    (sym (fills-at old to from a b) ∙ ap (λ (f : ℕ → ℕ → List Row). f to from) (sym same)))
+-- THE SAME OF A CHANNEL THAT IS KNOWN TO BE THIS ONE, by the change of what it holds
+
+abbrev pub added : Row → List Row → List Row
+added m ms = ms ++ m ∷ []
+
+abbrev pub without_first : List Row → List Row
+without_first ms = drop 1 ms
+
+at-channel : (s later : State) (channel other : Channel) (change : List Row → List Row) → channel ≡ other
+    → Holds s later other (change (channel_of s other)) → Holds s later channel (change (channel_of s channel))
+at-channel s later channel other change e holds =
+    subst (λ (one : Channel). Holds s later one (change (channel_of s one))) (sym e) holds
+
+pub request-changed : (s : State) (f : ℕ → List Row) (channel : Channel) (from : ℕ) (change : List Row → List Row)
+    → channel ≡ channels.Request from → f ≡ put s.request from (change (s.request from))
+    → Holds s (record s { request = f }) channel (change (channel_of s channel))
+request-changed s f channel from change is e =
+    at-channel s (record s { request = f }) channel (channels.Request from) change is (request-holds s f from (change (s.request from)) e)
+
+pub command-changed : (s : State) (f : ℕ → List Row) (channel : Channel) (to : ℕ) (change : List Row → List Row)
+    → channel ≡ channels.Command to → f ≡ put s.command to (change (s.command to))
+    → Holds s (record s { command = f }) channel (change (channel_of s channel))
+command-changed s f channel to change is e =
+    at-channel s (record s { command = f }) channel (channels.Command to) change is (command-holds s f to (change (s.command to)) e)
+
+pub response-changed : (s : State) (f : ℕ → List Row) (channel : Channel) (from : ℕ) (change : List Row → List Row)
+    → channel ≡ channels.Response from → f ≡ put s.response from (change (s.response from))
+    → Holds s (record s { response = f }) channel (change (channel_of s channel))
+response-changed s f channel from change is e =
+    at-channel s (record s { response = f }) channel (channels.Response from) change is
+    (response-holds s f from (change (s.response from)) e)
 
 -- a fill channel is between caches of eight
-pub within-eight : (k : Shape) (channel : Channel) (to from : ℕ) → k.caches ≤ 8 → channel ≡ channels.Fill to from
+within-eight : (k : Shape) (channel : Channel) (to from : ℕ) → k.caches ≤ 8 → channel ≡ channels.Fill to from
     → IsChannel k channel → (to < 8) × (from < 8)
 within-eight k channel to from few e there =
     let both = subst (IsChannel k) e there in (omega (arith, few, both.0), omega (arith, few, both.1))
 
--- the same of a channel that is known to be this one
-pub at-channel : (s t : State) (channel other : Channel) (change : List Row → List Row) → channel ≡ other
-    → Holds s t other (change (channel_of s other)) → Holds s t channel (change (channel_of s channel))
-at-channel s t channel other change e holds = subst (λ (one : Channel). Holds s t one (change (channel_of s one))) (sym e) holds
+-- a channel to a cache from another has a place among all
+fills-changed : (s : State) (f old : ℕ → List Row) (to from : ℕ) (change : List Row → List Row) → to < 8 → from < 8
+    → s.fill ≡ fills_of old → f ≡ put old (fill_place to from) (change (old (fill_place to from)))
+    → fills_of f ≡ put s.fill to (put (s.fill to) from (change (s.fill to from)))
+fills-changed s f old to from change a b same e =
+    ap fills_of e
+    ∙ fills-put old to from (change (old (fill_place to from))) a b
+    ∙ ap (λ (g : ℕ → ℕ → List Row). put g to (put (g to) from (change (old (fill_place to from))))) (sym same)
+    ∙ ap (λ (ms : List Row). put s.fill to (put (s.fill to) from (change ms)))
+    (sym (fills-at old to from a b) ∙ ap (λ (g : ℕ → ℕ → List Row). g to from) (sym same))
+
+pub fill-changed : (k : Shape) (s : State) (f old : ℕ → List Row) (channel : Channel) (place to from : ℕ)
+    (change : List Row → List Row) → k.caches ≤ 8 → IsChannel k channel → channel ≡ channels.Fill to from
+    → s.fill ≡ fills_of old → place ≡ fill_place to from → f ≡ put old place (change (old place))
+    → Holds s (record s { fill = fills_of f }) channel (change (channel_of s channel))
+fill-changed k s f old channel place to from change few there is same at e =
+    let both = within-eight k channel to from few is there in
+    at-channel s (record s { fill = fills_of f }) channel (channels.Fill to from) change is
+    (fill-holds s (fills_of f) to from (change (s.fill to from))
+    (fills-changed s f old to from change both.0 both.1 same (e ∙ ap (λ (n : ℕ). put old n (change (old n))) at)))
+
+pub fill-first : (k : Shape) (s : State) (old : ℕ → List Row) (channel : Channel) (place to from : ℕ) → k.caches ≤ 8
+    → IsChannel k channel → channel ≡ channels.Fill to from → s.fill ≡ fills_of old → place ≡ fill_place to from
+    → first (old place) ≡ first (channel_of s channel)
+fill-first k s old channel place to from few there is same at =
+    let both = within-eight k channel to from few is there in
+    ap (λ (n : ℕ). first (old n)) at
+    ∙ ap first (sym (fills-at old to from both.0 both.1))
+    ∙ ap (λ (g : ℕ → ℕ → List Row). first (g to from)) (sym same)
+    ∙ ap (λ (one : Channel). first (channel_of s one)) (sym is)
+
+pub memout-changed : (s : State) (f old : ℕ → List Row) (channel : Channel) (change : List Row → List Row) → channel ≡ channels.Memout
+    → s.memout ≡ old 0 → f ≡ put old 0 (change (old 0))
+    → Holds s (record s { memout = f 0 }) channel (change (channel_of s channel))
+memout-changed s f old channel change is same e =
+    at-channel s (record s { memout = f 0 }) channel channels.Memout change is
+    (memout-holds s (f 0) (change s.memout)
+    (ap (λ (g : ℕ → List Row). g 0) e ∙ put_at old 0 (change (old 0)) ∙ ap change (sym same)))
+
+pub memin-changed : (s : State) (f old : ℕ → List Row) (channel : Channel) (change : List Row → List Row) → channel ≡ channels.Memin
+    → s.memin ≡ old 0 → f ≡ put old 0 (change (old 0))
+    → Holds s (record s { memin = f 0 }) channel (change (channel_of s channel))
+memin-changed s f old channel change is same e =
+    at-channel s (record s { memin = f 0 }) channel channels.Memin change is
+    (memin-holds s (f 0) (change s.memin)
+    (ap (λ (g : ℕ → List Row). g 0) e ∙ put_at old 0 (change (old 0)) ∙ ap change (sym same)))
 
 -- WITHIN THE CONFIGURATION
 
@@ -199,7 +263,8 @@ if-within false k ms within = tt
 
 fills-within : (q : Channels) (k : Shape) (to from : ℕ) → q.config ≡ k → EachWithin k (fills_of (queue q) to from)
 unfolding fills_of
-fills-within q k to from e = if-within (nat_lt to 8 && nat_lt from 8) k (queue q (fill_place to from)) (queue-within q k (fill_place to from) e)
+fills-within q k to from e =
+    if-within (nat_lt to 8 && nat_lt from 8) k (queue q (fill_place to from)) (queue-within q k (fill_place to from) e)
 
 pub all-within : (y : Hardware) (channel : Channel) → EachWithin y.config (channel_of (state_of y) channel)
 all-within y (channels.Request from) = queue-within y.requests y.config from y.requests_config

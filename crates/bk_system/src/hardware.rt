@@ -10,7 +10,7 @@ use crate::memory::MainMemory;
 use arrayvec::ArrayVec;
 use bk_base::{Config, Done};
 use bk_engine::Engine;
-use bk_lce::{CacheArrays, Line};
+use bk_lce::CacheArrays;
 use bk_msg::Message;
 use std::alloc::{AllocError, Global};
 
@@ -146,15 +146,5 @@ impl Hardware {
         ensures number { result.now.number ≡ cache }
     {
         self.caches.cache(cache)
-    }
-
-    /// The line of a cache at a way of a set.
-    pub fn line(&self, cache: u8, set: u8, way: u8) -> Line
-        requires cache { cache < self.now.config.caches }
-        requires set { set < self.now.config.sets }
-        requires way { way < self.now.config.ways }
-        ensures { result ≡ ((state_of self.now).caches cache).lines set way }
-    {
-        self.cache(cache).line(set, way)
     }
 }

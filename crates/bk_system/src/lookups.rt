@@ -1,6 +1,6 @@
 ghost use Rattle.std.specs.Prelude.{◌≡◌, ◌≤◌, ◌<◌, MatchOption, slice_get};
 ghost use Rattle.bk_system.specs.Channels.{queue};
-ghost use Rattle.bk_system.specs.Lookups.{is_filled, has_message, has_fill, is_idle, awaited};
+ghost use Rattle.bk_system.specs.Lookups.{has_message, has_fill, is_idle, awaited};
 ghost use Rattle.bk_system.specs.Next.{IsNextOf, IsNoneFrom};
 ghost use Rattle.bk_system.specs.Numbering.{fills_of};
 
@@ -97,20 +97,6 @@ impl Hardware {
             (IsNextOf 64 start (has_fill self.now.config.caches (state_of self.now).fill)) }
     {
         next_fill_place(&self.fills, self.cache_count(), start)
-    }
-
-    /// Whether the channel to the memory holds a message.
-    pub fn has_memout(&self) -> bool
-        ensures { result ≡ is_filled (state_of self.now).memout }
-    {
-        self.memout.head(0).is_some()
-    }
-
-    /// Whether the channel from the memory holds a message.
-    pub fn has_memin(&self) -> bool
-        ensures { result ≡ is_filled (state_of self.now).memin }
-    {
-        self.memin.head(0).is_some()
     }
 
     /// The classes of the `wfq` at the engine's place; none where another instruction stands there, or no instruction.
