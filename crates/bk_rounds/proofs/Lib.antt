@@ -1,0 +1,17 @@
+pub mod Acts
+pub mod AfterTurns
+pub mod Appended
+pub mod AtEnds
+pub mod Brings
+pub mod Channels
+pub mod Choices
+pub mod EndLists
+pub mod Making
+pub mod SameAgents
+pub mod Spelled
+pub mod Streams
+pub mod TakesSends
+pub mod Through
+pub mod WorkMakes
+pub mod WorkTakes
+pub mod Works
