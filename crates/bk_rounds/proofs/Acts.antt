@@ -135,7 +135,8 @@ delivery-acts {E = E} task k c s new ms result config below none made =
       engine = λ e. absurd (omega (arith, here, e));
       memory = λ e. absurd (omega (arith, here, e));
     })
-    (subst (λ (shape : Shape). Makes {E = E} shape task.program (least_delivery_to shape task.program s c) s new ms result) (sym config) made)
+    (subst (λ (shape : Shape). Makes {E = E} shape task.program (least_delivery_to shape task.program s c) s new ms result) (sym config)
+    made)
 
 -- of the engine
 pub engine-acts : {E : Type 0} (task : Task) (k : Shape) (n : ℕ) (s new : State) (ms : List Row) (result : Result (Option Event) E)
@@ -167,7 +168,8 @@ memory-acts {E = E} task k n s new ms result config own made =
       engine = λ e. absurd (omega (arith, here, e));
       memory = λ e. nothing;
     })
-    (subst (λ (shape : Shape). Makes {E = E} shape task.program (if_enabled shape task.program s Memory) s new ms result) (sym config) made)
+    (subst (λ (shape : Shape). Makes {E = E} shape task.program (if_enabled shape task.program s Memory) s new ms result)
+    (sym config) made)
 
 -- OF A CACHE THAT BEGINS AN OPERATION
 
@@ -198,7 +200,8 @@ ready-next k program s c d op (Some o) e = whether (is_enabled k program s (Issu
 
 -- the policy was asked about the set of the operation
 pub asked-here : (policy : List WayView → ℕ → Type 0) (k seen told : Shape) (s : State) (c d : ℕ) (op : Op) (cache : CacheState)
-    (address group way : ℕ) → seen ≡ k → cache ≡ s.caches d → told ≡ k → address ≡ address_of op → group ≡ group_of told address
+    (address group way : ℕ) → seen ≡ k → cache ≡ s.caches d → told ≡ k → address ≡ address_of op
+    → group ≡ group_of told address
     → d ≡ c → policy (views seen cache group) way → policy (views k (s.caches c) (group_of k (address_of op))) way
 asked-here policy k seen told s c d op cache address group way shape state trace at set own answer =
     let place : group ≡ group_of k (address_of op) =
@@ -209,7 +212,8 @@ asked-here policy k seen told s c d op cache address group way shape state trace
     (subst (λ (shape : Shape). policy (views shape cache group) way) shape answer)))
 
 -- the part of a cache
-cache-part : (k : Shape) (s : State) (c : ℕ) → c < k.caches → part_of k s c ≡ CachePart (s.caches c) (length (completed_by c s.history))
+cache-part : (k : Shape) (s : State) (c : ℕ) → c < k.caches → part_of k s c ≡ CachePart (s.caches c) (length
+    (completed_by c s.history))
 cache-part k s c l = rw (lt-ltb c k.caches l) refl
 
 pub issue-acts : {E : Type 0} (task : Task) (k : Shape) (c d way : ℕ) (op : Op) (s new : State) (ms : List Row)
@@ -219,7 +223,8 @@ pub issue-acts : {E : Type 0} (task : Task) (k : Shape) (c d way : ℕ) (op : Op
     → Makes k task.program (if_enabled k task.program s (Issue d way op)) s new ms result → IfOk result (Acts task c s new ms)
 issue-acts {E = E} task k c d way op s new ms result config below within own ready asked made =
     at result
-    (subst (λ (shape : Shape). Makes {E = E} shape task.program (if_enabled shape task.program s (Issue c way op)) s new ms result) (sym config)
+    (subst (λ (shape : Shape). Makes {E = E} shape task.program (if_enabled shape task.program s (Issue c way op)) s new ms result)
+    (sym config)
     (subst (λ (i : ℕ). Makes {E = E} k task.program (if_enabled k task.program s (Issue i way op)) s new ms result) own made))
   where
     next : (next_operation s task.operations c ≡ Some op) × (c ≡ d) × IsTrue (is_enabled k task.program s (Issue c 0 op))
@@ -239,7 +244,8 @@ issue-acts {E = E} task k c d way op s new ms result config below within own rea
     none false is e = absurd (cc (is))
 
     at : (r : Result (Option Event) E)
-        → Makes task.config task.program (if_enabled task.config task.program s (Issue c way op)) s new ms r → IfOk r (Acts task c s new ms)
+        → Makes task.config task.program (if_enabled task.config task.program s (Issue c way op)) s new ms r
+        → IfOk r (Acts task c s new ms)
     at (Ok (Some event)) made =
         subst (λ (event : Event). Acts task c s new ms (Some event))
         (if-some (is_enabled task.config task.program s (Issue c way op)) (Issue c way op) event made.0) (

@@ -26,11 +26,12 @@ use Rattle.bk_rounds.proofs.WorkTakes.{work-takes, is-sent-takes}
 use Rattle.bk_rounds.proofs.WorkMakes.{work-makes}
 
 -- the ends and the number that an agent has don't matter, where they are as before
-same-ends : (task : Task) (begun s : State) (n m clock : ℕ) (inlets others : Vec Inlet) (outlets more : Vec Outlet) (entries : List Stamped)
-    → m ≡ n → others ≡ inlets → more ≡ outlets
+same-ends : (task : Task) (begun s : State) (n other clock : ℕ) (inlets others : Vec Inlet) (outlets more : Vec Outlet)
+    (entries : List Stamped)
+    → other ≡ n → others ≡ inlets → more ≡ outlets
     → IsWork task n begun s (took task.config inlets.items) (sent task.config outlets.items) clock entries
-    → IsWork task m begun s (took task.config others.items) (sent task.config more.items) clock entries
-same-ends task begun s n m clock inlets others outlets more entries number in_same out_same work =
+    → IsWork task other begun s (took task.config others.items) (sent task.config more.items) clock entries
+same-ends task begun s n other clock inlets others outlets more entries number in_same out_same work =
     subst (λ (i : ℕ). IsWork task i begun s (took task.config others.items) (sent task.config more.items) clock entries) (sym number)
     (subst (λ (v : Vec Inlet). IsWork task n begun s (took task.config v.items) (sent task.config more.items) clock entries)
     (sym in_same)
@@ -114,7 +115,8 @@ idle-waits task old new stamp false k n config number e notes waits =
 -- AN EVENT WAS MADE
 
 pub make-works : (task : Task) (begun : State) (old new : Agent) (stamp : ℕ) (made : Bool) → task.config ≡ old.hardware.config
-    → new.hardware.config ≡ old.hardware.config → new.number ≡ old.number → new.inlets ≡ old.inlets → new.outlets ≡ old.outlets
+    → new.hardware.config ≡ old.hardware.config → new.number ≡ old.number → new.inlets ≡ old.inlets
+    → new.outlets ≡ old.outlets
     → IsSent old.hardware.config old.number (state_of old.hardware) → made ≡ true → stamp ≡ old.clock + 1
     → Notes task old.number stamp (state_of old.hardware) (state_of new.hardware) old.clock new.clock old.entries.items
     new.entries.items made

@@ -68,9 +68,11 @@ still-empty channel other old new rest holds none before (inr differ) =
 
 -- After a send that has sent all of a channel, one channel more is empty.
 pub empty-next : (k : Shape) (outlets : List Outlet) (channels : List Channel) (i : ℕ) (d : Outlet) (old new : State)
-    (given last : List wire.Packet) (clock : ℕ) → map outlet_channel outlets ≡ channels → i < length outlets → d ≡ get_or outlets i d
+    (given last : List wire.Packet) (clock : ℕ) → map outlet_channel outlets ≡ channels → i < length outlets
+    → d ≡ get_or outlets i d
     → Sheds k d.channel old new given last clock → channel_of new d.channel ≡ []
-    → AllWithin (λ channel. channel_of old channel ≡ []) channels 0 i → AllWithin (λ channel. channel_of new channel ≡ []) channels 0 (i + 1)
+    → AllWithin (λ channel. channel_of old channel ≡ []) channels 0 i
+    → AllWithin (λ channel. channel_of new channel ≡ []) channels 0 (i + 1)
 empty-next k outlets channels i d old new given last clock list within is sheds none before =
     let many = as-many outlet_channel outlets channels list in
     let here : get_or channels i d.channel ≡ d.channel = at-index outlet_channel outlets channels i d list within is in

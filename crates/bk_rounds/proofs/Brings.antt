@@ -41,28 +41,32 @@ one-more k more packet =
     packets-append k more (packet ∷ []) ∙ ap (λ ps. packets_in k more ++ ps) (append-nil (option_to_list (packet_of k packet)))
 
 -- One packet more is taken. The call that put it in speaks of the configuration and of the channel as they are by then.
-pub brings-more : (k here : Shape) (channel at : Channel) (a b c : State) (taken later last : List wire.Packet) (packet : wire.Packet)
-    (clock next now : ℕ) → here ≡ k → at ≡ channel → Brings k channel a b taken later clock next → last ≡ later ++ packet ∷ []
-    → Holds b c at (channel_of b at ++ messages_of (option_to_list (packet_of here packet))) → next ≤ now → packet.stamp ≤ now
-    → Brings k channel a c taken last clock now
-brings-more k here channel at a b c taken later last packet clock next now config same brings one holds on by =
+pub brings-more : (k here : Shape) (channel at : Channel) (old mid new : State) (taken later last : List wire.Packet) (packet : wire.Packet)
+    (clock next now : ℕ) → here ≡ k → at ≡ channel → Brings k channel old mid taken later clock next
+    → last ≡ later ++ packet ∷ []
+    → Holds mid new at (channel_of mid at ++ messages_of (option_to_list (packet_of here packet))) → next ≤ now
+    → packet.stamp ≤ now
+    → Brings k channel old new taken last clock now
+brings-more k here channel at old mid new taken later last packet clock next now config same brings one holds on by =
     let more = brings.more in
     let said = packets_in k more in
-    let there = subst (λ (p : Shape × Channel). Holds b c p.1 (channel_of b p.1 ++ messages_of (option_to_list (packet_of p.0 packet))))
+    let there = subst (λ (p : Shape × Channel). Holds mid new p.1 (channel_of mid p.1 ++ messages_of (option_to_list
+        (packet_of p.0 packet))))
     (λ i. (config i, same i)) holds in
-    let before : channel_of b channel ≡ channel_of a channel ++ messages_of said =
-    holds-here a b channel (channel_of a channel ++ messages_of said) brings.holds in
-    let list : channel_of b channel ++ messages_of (option_to_list (packet_of k packet))
-    ≡ channel_of a channel ++ messages_of (packets_in k (more ++ packet ∷ [])) =
+    let before : channel_of mid channel ≡ channel_of old channel ++ messages_of said =
+    holds-here old mid channel (channel_of old channel ++ messages_of said) brings.holds in
+    let list : channel_of mid channel ++ messages_of (option_to_list (packet_of k packet))
+    ≡ channel_of old channel ++ messages_of (packets_in k (more ++ packet ∷ [])) =
     ap (λ (ms : List Row). ms ++ messages_of (option_to_list (packet_of k packet))) before
-    ∙ append_assoc (channel_of a channel) (messages_of said) (messages_of (option_to_list (packet_of k packet)))
-    ∙ ap (λ (ms : List Row). channel_of a channel ++ ms) (sym (map-append message_of said (option_to_list (packet_of k packet)))
+    ∙ append_assoc (channel_of old channel) (messages_of said) (messages_of (option_to_list (packet_of k packet)))
+    ∙ ap (λ (ms : List Row). channel_of old channel ++ ms) (sym (map-append message_of said (option_to_list (packet_of k packet)))
     ∙ ap messages_of (sym (one-more k more packet))) in
     record {
       more = more ++ packet ∷ [];
-      taken_later = one ∙ ap (λ (ps : List wire.Packet). ps ++ packet ∷ []) brings.taken_later ∙ append_assoc taken more (packet ∷ []);
-      holds = subst (λ (ms : List Row). Holds a c channel ms) list
-          (holds-twice a b c channel (channel_of a channel ++ messages_of said) _ brings.holds there);
+      taken_later = one ∙ ap (λ (ps : List wire.Packet). ps ++ packet ∷ []) brings.taken_later
+          ∙ append_assoc taken more (packet ∷ []);
+      holds = subst (λ (ms : List Row). Holds old new channel ms) list
+          (holds-twice old mid new channel (channel_of old channel ++ messages_of said) _ brings.holds there);
       stamps = subst (λ (ps : List (Packet Row)). All (IsBy now) ps) (sym (packets-append k more (packet ∷ [])))
           (All-append (IsBy now) said (packets_in k (packet ∷ []))
           (All-weaker (IsBy next) (IsBy now) (λ p early. omega (arith, early, on)) said brings.stamps)
@@ -79,23 +83,25 @@ sheds-none k channel s given clock = record {
 }
 
 -- One more is sent: the head of the channel.
-pub sheds-more : (k : Shape) (channel at : Channel) (a b c : State) (given later last : List wire.Packet) (packet : wire.Packet) (m : Row)
-    (clock : ℕ) → at ≡ channel → Sheds k channel a b given later clock → last ≡ later ++ packet ∷ []
-    → packet_of k packet ≡ Some (with_stamp clock m) → first (channel_of b at) ≡ Some m → Holds b c at (drop 1 (channel_of b at))
-    → Sheds k channel a c given last clock
-sheds-more k channel at a b c given later last packet m clock same sheds one says head holds =
-    let there = subst (λ (x : Channel). Holds b c x (drop 1 (channel_of b x))) same holds in
-    let front = subst (λ (x : Channel). first (channel_of b x) ≡ Some m) same head in
-    let left = drop 1 (channel_of b channel) in
+pub sheds-more : (k : Shape) (channel at : Channel) (old mid new : State) (given later last : List wire.Packet)
+    (packet : wire.Packet) (m : Row)
+    (clock : ℕ) → at ≡ channel → Sheds k channel old mid given later clock → last ≡ later ++ packet ∷ []
+    → packet_of k packet ≡ Some (with_stamp clock m) → first (channel_of mid at) ≡ Some m
+    → Holds mid new at (drop 1 (channel_of mid at))
+    → Sheds k channel old new given last clock
+sheds-more k channel at old mid new given later last packet m clock same sheds one says head holds =
+    let there = subst (λ (x : Channel). Holds mid new x (drop 1 (channel_of mid x))) same holds in
+    let front = subst (λ (x : Channel). first (channel_of mid x) ≡ Some m) same head in
+    let left = drop 1 (channel_of mid channel) in
     let list : packets_in k last ≡ packets_in k later ++ with_stamp clock m ∷ [] =
     ap (packets_in k) one ∙ one-more k later packet
     ∙ ap (λ (said : Option (Packet Row)). packets_in k later ++ option_to_list said) says in
     record {
       rest = left;
-      holds = holds-twice a b c channel sheds.rest left sheds.holds there;
+      holds = holds-twice old mid new channel sheds.rest left sheds.holds there;
       total = ap (λ (ps : List (Packet Row)). ps ++ packets_of clock left) list
           ∙ append_assoc (packets_in k later) (with_stamp clock m ∷ []) (packets_of clock left)
           ∙ ap (λ (ms : List Row). packets_in k later ++ packets_of clock ms)
-          (head-rest (channel_of b channel) m front ∙ holds-here a b channel sheds.rest sheds.holds)
+          (head-rest (channel_of mid channel) m front ∙ holds-here old mid channel sheds.rest sheds.holds)
           ∙ sheds.total;
     }

@@ -43,10 +43,11 @@ holds-there old new channel other ms holds differ =
     holds.channels other ∙ if-false (is_same channel other) ms (channel_of old other) (other-one channel other differ)
 
 -- twice on one channel is once
-pub holds-twice : (a b c : State) (channel : Channel) (early late : List Row) → Holds a b channel early → Holds b c channel late
-    → Holds a c channel late
-holds-twice a b c channel early late one two = record {
-  channels = λ other. if-twice (is_same channel other) late early (channel_of a other) (channel_of b other) (channel_of c other)
+pub holds-twice : (old mid new : State) (channel : Channel) (early late : List Row) → Holds old mid channel early
+    → Holds mid new channel late
+    → Holds old new channel late
+holds-twice old mid new channel early late one two = record {
+  channels = λ other. if-twice (is_same channel other) late early (channel_of old other) (channel_of mid other) (channel_of new other)
       (two.channels other) (one.channels other);
   caches = two.caches ∙ one.caches;
   engine = two.engine ∙ one.engine;

@@ -66,6 +66,7 @@ waits-on old now s turn other same is goes_on (inr waits) =
     (subst (λ (n : ℕ). IsSent now.hardware.config n s) same.number waits)
 
 -- The turns that may still make an event are all, or there are events.
-pub made-on : (left later before now : ℕ) → later ≡ left → before ≤ now → (left ≡ 64) ⊎ (1 ≤ before) → (later ≡ 64) ⊎ (1 ≤ now)
+pub made-on : (left later before now : ℕ) → later ≡ left → before ≤ now → (left ≡ 64) ⊎ (1 ≤ before)
+    → (later ≡ 64) ⊎ (1 ≤ now)
 made-on left later before now same more (inl all) = inl (same ∙ all)
 made-on left later before now same more (inr some) = inr (omega (arith, more, some))

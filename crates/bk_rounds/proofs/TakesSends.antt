@@ -47,9 +47,9 @@ inward-both k n channel early late (inl inward) two = inl inward
 inward-both k n channel early late (inr none) (inl inward) = inl inward
 inward-both k n channel early late (inr none) (inr nothing) = inr (ap (λ ps. ps ++ late) none ∙ nothing)
 
-pub takes-twice : (k : Shape) (n : ℕ) (a b c : State) (took later last : Channels Channel Row) (clock next now : ℕ)
-    → Takes k n a b took later clock next → Takes k n b c later last next now → Takes k n a c took last clock now
-takes-twice k n a b c took later last clock next now one two =
+pub takes-twice : (k : Shape) (n : ℕ) (old mid new : State) (took later last : Channels Channel Row) (clock next now : ℕ)
+    → Takes k n old mid took later clock next → Takes k n mid new later last next now → Takes k n old new took last clock now
+takes-twice k n old mid new took later last clock next now one two =
     let early : clock ≤ next = one.forward in
     let late : next ≤ now = two.forward in
     record {
@@ -57,8 +57,8 @@ takes-twice k n a b c took later last clock next now one two =
       took_later = λ channel. two.took_later channel ∙ ap (λ ps. ps ++ two.more channel) (one.took_later channel)
           ∙ append_assoc (took channel) (one.more channel) (two.more channel);
       inbox = λ channel. two.inbox channel ∙ ap (λ ms. ms ++ messages_of (two.more channel)) (one.inbox channel)
-          ∙ append_assoc (channel_of a channel) (messages_of (one.more channel)) (messages_of (two.more channel))
-          ∙ ap (λ ms. channel_of a channel ++ ms) (sym (map-append message_of (one.more channel) (two.more channel)));
+          ∙ append_assoc (channel_of old channel) (messages_of (one.more channel)) (messages_of (two.more channel))
+          ∙ ap (λ ms. channel_of old channel ++ ms) (sym (map-append message_of (one.more channel) (two.more channel)));
       inward = λ channel. inward-both k n channel (one.more channel) (two.more channel) (one.inward channel) (two.inward channel);
       stamps = λ channel. All-append (IsBy now) (one.more channel) (two.more channel)
           (All-weaker (IsBy next) (IsBy now) (λ packet by. omega (arith, by, late)) (one.more channel) (one.stamps channel))
@@ -138,16 +138,17 @@ sends-none k n s sent clock = record {
   part = refl;
 }
 
-pub sends-twice : (k : Shape) (n : ℕ) (a b c : State) (sent later last : Channels Channel Row) (clock : ℕ)
-    → Sends k n a b sent later clock → Sends k n b c later last clock → Sends k n a c sent last clock
-sends-twice k n a b c sent later last clock one two = record {
+pub sends-twice : (k : Shape) (n : ℕ) (old mid new : State) (sent later last : Channels Channel Row) (clock : ℕ)
+    → Sends k n old mid sent later clock → Sends k n mid new later last clock → Sends k n old new sent last clock
+sends-twice k n old mid new sent later last clock one two = record {
   total = λ channel outward. two.total channel outward ∙ one.total channel outward;
   inbox = λ channel here. two.inbox channel here ∙ one.inbox channel here;
   part = two.part ∙ one.part;
 }
 
 total-by : (k : Shape) (channel other : Channel) (old new : State) (sent later : Channels Channel Row) (given last : List wire.Packet)
-    (clock : ℕ) → Sheds k channel old new given last clock → sent channel ≡ packets_in k given → later channel ≡ packets_in k last
+    (clock : ℕ) → Sheds k channel old new given last clock → sent channel ≡ packets_in k given
+    → later channel ≡ packets_in k last
     → ((other : Channel) → channel ≢ other → later other ≡ sent other) → (channel ≡ other) ⊎ (channel ≢ other)
     → later other ++ packets_of clock (channel_of new other) ≡ sent other ++ packets_of clock (channel_of old other)
 total-by k channel other old new sent later given last clock sheds here now elsewhere (inl same) =

@@ -87,7 +87,8 @@ engine-sends k n (m ∷ ms) h = (engine-goes k n m (network_of m) refl h.0, engi
 
 -- THE MEMORY
 
-memory-sends : (k : Shape) (n : ℕ) (memory : ℕ → ℕ) (m : Row) → AllByRecursion (GoesThrough k n) (option_to_list (answer_to memory m))
+memory-sends : (k : Shape) (n : ℕ) (memory : ℕ → ℕ) (m : Row)
+    → AllByRecursion (GoesThrough k n) (option_to_list (answer_to memory m))
 memory-sends k n memory (rows.Read from to addr) = (λ within. tt, tt)
 memory-sends k n memory m = tt
 

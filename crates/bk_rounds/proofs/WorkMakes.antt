@@ -80,7 +80,8 @@ module _ (task : Task) (n : ℕ) (begun now new : State) (took sent : Channels C
       (there.0, there.1, there.2, there.3 ∙ sym head.1)
 
   enabled-at : (channels : Channels Channel Row)
-      → ((channel : Channel) → of.local.touched ≡ Some channel → option_map message_of (heads channels channel) ≡ heads_of now channel)
+      → ((channel : Channel) → of.local.touched ≡ Some channel
+      → option_map message_of (heads channels channel) ≡ heads_of now channel)
       → system_rules task.config task.program n (part_after begins work.steps) (heads channels) step.event ≡ Some step.effect
   enabled-at channels same =
       ap (λ (b : Bool). if b then option_map (effect_of n (clock + 1))
@@ -142,7 +143,8 @@ module _ (task : Task) (n : ℕ) (begun now new : State) (took sent : Channels C
       ≡ after_taking is_same step.effect left channel ++ step.effect.sent channel
   left-after channel =
       streams_after-more is_same streams work.steps step channel
-      ∙ taking-same is_same step.effect (λ other. left other ++ step.effect.sent other) (streams_after is_same streams work.steps) channel
+      ∙ taking-same is_same step.effect (λ other. left other ++ step.effect.sent other)
+      (streams_after is_same streams work.steps) channel
       (left-then channel)
       ∙ taking-longer is_same same-channel step.effect left step.effect.sent channel
       (λ other at. let see = seen other at in (see.0, see.1, see.2))

@@ -10,7 +10,7 @@ ghost use Rattle.bk_rounds.specs.Reading.{packet_of, with_stamp};
 
 use crate::agent::Agent;
 use crate::ends::Outlet;
-use bk_msg::{Message, Packet, spell};
+use bk_msg::{Message, Packet, encode};
 use bk_system::{Hardware, MOST_SENT};
 use std::sync::Wait;
 
@@ -18,11 +18,9 @@ use std::sync::Wait;
 fn packet_with(message: &Message, stamp: u64) -> Packet
     ensures { (k : Shape) → IsWithin k message.now → packet_of k result ≡ Some (with_stamp stamp message.now) }
 {
-    let row = message.row();
-    Packet {
-        bytes: spell(&row),
-        stamp,
-    }
+    // That its fields are in range, which `row` says, is why its bytes are read as the message.
+    let _in_range = message.row();
+    encode(message, stamp)
 }
 
 /// Sends the messages of a channel in the hardware, with the clock as their stamp, and answers whether all were sent. One for which there

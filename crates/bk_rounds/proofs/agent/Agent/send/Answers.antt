@@ -33,7 +33,8 @@ send_to-requires g c =
     is-channel c.args.self.now.hardware.config c.loop-place.self.hardware.config c.index_mut-outlet.result.now.channel
     c.index_mut-outlet.result.now.channel c.loop-place.invariant.config refl
     (all-at outlet_channel (IsChannel c.args.self.now.hardware.config) c.loop-place.self.outlets.items
-    (map outlet_channel c.args.self.now.outlets.items) c.loop-place.place c.index_mut-outlet.result.now c.loop-place.invariant.outlets within
+    (map outlet_channel c.args.self.now.outlets.items) c.loop-place.place c.index_mut-outlet.result.now
+    c.loop-place.invariant.outlets within
     c.index_mut-outlet.ensures.value c.requires.channels)
 
 pub returns-then-not-send_to-clause-sends : goal.returns-then-not-send_to-clause-sends
@@ -96,7 +97,8 @@ loop-place-preserved g c =
       inlets = c.loop-place.invariant.inlets;
       clock = c.loop-place.invariant.clock;
       entries = c.loop-place.invariant.entries;
-      outlets = channels-kept outlet_channel c.loop-place.self.outlets.items c.loop-place.place c.index_mut-outlet.result.now c.send_to.new.outlet
+      outlets = channels-kept outlet_channel c.loop-place.self.outlets.items c.loop-place.place c.index_mut-outlet.result.now
+          c.send_to.new.outlet
           c.index_mut-outlet.ensures.value c.send_to.ensures.channel ∙ c.loop-place.invariant.outlets;
       empty = empty-next c.loop-place.self.hardware.config items (map outlet_channel c.args.self.now.outlets.items) c.loop-place.place
           c.index_mut-outlet.result.now (state_of c.loop-place.self.hardware) (state_of c.send_to.new.hardware)

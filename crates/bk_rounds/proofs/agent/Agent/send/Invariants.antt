@@ -15,7 +15,8 @@ invariant-loop-place g l = record {
   clock : l.self.clock ≡ l.fn.self.clock;
   entries : l.self.entries ≡ l.fn.self.entries;
   outlets : map outlet_channel l.self.outlets.items ≡ map outlet_channel l.fn.self.outlets.items;
-  empty : AllWithin (λ channel. channel_of (state_of l.self.hardware) channel ≡ []) (map outlet_channel l.fn.self.outlets.items) 0 l.place;
+  empty : AllWithin (λ channel. channel_of (state_of l.self.hardware) channel ≡ [])
+      (map outlet_channel l.fn.self.outlets.items) 0 l.place;
   sends : Sends l.fn.self.hardware.config l.fn.self.number (state_of l.fn.self.hardware) (state_of l.self.hardware)
       (sent l.fn.self.hardware.config l.fn.self.outlets.items) (sent l.fn.self.hardware.config l.self.outlets.items)
       l.fn.self.clock;
