@@ -51,7 +51,7 @@ brings-more k here channel at old mid new taken later last packet clock next now
     let more = brings.more in
     let said = packets_in k more in
     let there = subst (λ (p : Shape × Channel). Holds mid new p.1 (channel_of mid p.1 ++ messages_of (option_to_list
-        (packet_of p.0 packet))))
+    (packet_of p.0 packet))))
     (λ i. (config i, same i)) holds in
     let before : channel_of mid channel ≡ channel_of old channel ++ messages_of said =
     holds-here old mid channel (channel_of old channel ++ messages_of said) brings.holds in

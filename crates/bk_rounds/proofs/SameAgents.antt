@@ -15,7 +15,14 @@ use Rattle.bk_rounds.specs.Ends.{inlet_channel, outlet_channel, is_in, IsInward,
 use Rattle.bk_rounds.specs.Work.{IsSent}
 
 pub same-agent : (agent : Agent) → IsSame agent agent
-same-agent agent = record { number = refl; config = refl; inlets = refl; outlets = refl }
+same-agent agent = record {
+  number = refl;
+  config = refl;
+  inlets = refl;
+  outlets = refl;
+  inlet_tables = refl;
+  outlet_tables = refl;
+}
 
 pub same-again : (old now new : Agent) → IsSame old now → IsSame now new → IsSame old new
 same-again old now new first then = record {
@@ -23,6 +30,8 @@ same-again old now new first then = record {
   config = then.config ∙ first.config;
   inlets = then.inlets ∙ first.inlets;
   outlets = then.outlets ∙ first.outlets;
+  inlet_tables = then.inlet_tables ∙ first.inlet_tables;
+  outlet_tables = then.outlet_tables ∙ first.outlet_tables;
 }
 
 inlets-alike : (k : Shape) (n : ℕ) (inlets others : List Inlet) → map inlet_channel others ≡ map inlet_channel inlets

@@ -7,7 +7,7 @@ use Rattle.bk_system.specs.Routes.{heads_of}
 use Rattle.bk_system.specs.State.{State}
 use Rattle.bk_system.specs.Systems.{state_of}
 use Rattle.bk_rounds.specs.declared.agent.Agent.{Agent}
-use Rattle.bk_rounds.specs.Ends.{took, sent, inlet_channel, outlet_channel}
+use Rattle.bk_rounds.specs.Ends.{took, sent, inlet_channel, outlet_channel, inlet_table, outlet_table}
 use Rattle.bk_rounds.specs.Tasks.{Task}
 use Rattle.bk_rounds.specs.Work.{IsWork, IsSent}
 
@@ -31,3 +31,5 @@ pub record IsSame (old new : Agent) : Type 0 where
   pub config : new.hardware.config ≡ old.hardware.config
   pub inlets : map inlet_channel new.inlets.items ≡ map inlet_channel old.inlets.items
   pub outlets : map outlet_channel new.outlets.items ≡ map outlet_channel old.outlets.items
+  pub inlet_tables : map inlet_table new.inlets.items ≡ map inlet_table old.inlets.items
+  pub outlet_tables : map outlet_table new.outlets.items ≡ map outlet_table old.outlets.items

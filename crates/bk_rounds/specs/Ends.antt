@@ -1,5 +1,6 @@
 -- The ends of channels that an agent has: the inlets from which it takes, and the outlets to which it sends.
 use Rattle.std.specs.Prelude.{◌≡◌, ◌≢◌, ℕ, List, [], ◌∷◌, Bool, true, false, if◌then◌else◌, map, All, AllPairs}
+use Rattle.atomic_table.specs.Seated.{TableId}
 use Rattle.bk_base.specs.Places.{Shape}
 use Rattle.bk_msg.specs.declared.codec.Packet as wire
 use Rattle.bk_msg.specs.declared.row.Row.{Row}
@@ -42,6 +43,13 @@ inlet_channel inlet = inlet.channel
 
 abbrev pub outlet_channel : Outlet → Channel
 outlet_channel outlet = outlet.channel
+
+-- which channel between threads it is an end of: `close` asks that of both ends
+abbrev pub inlet_table : Inlet → TableId
+inlet_table inlet = inlet.receiver.channel
+
+abbrev pub outlet_table : Outlet → TableId
+outlet_table outlet = outlet.sender.channel
 
 abbrev pub is_in : Channel → List Channel → Bool
 is_in channel [] = false

@@ -4,7 +4,7 @@ ghost use Rattle.bk_msg.specs.Within.{IsWithin};
 ghost use Rattle.bk_system.specs.Routes.{channel_of, IsChannel};
 ghost use Rattle.bk_system.specs.Systems.{state_of};
 ghost use Rattle.bk_system.specs.declared.channel.Channel as channels;
-ghost use Rattle.bk_rounds.specs.Ends.{sent, outlet_channel, AreOutlets, IsOutward};
+ghost use Rattle.bk_rounds.specs.Ends.{sent, outlet_channel, outlet_table, AreOutlets, IsOutward};
 ghost use Rattle.bk_rounds.specs.Moves.{Sheds, Sends};
 ghost use Rattle.bk_rounds.specs.Reading.{packet_of, with_stamp};
 
@@ -31,6 +31,7 @@ fn send_to<R: Wait>(rt: &R, hardware: &mut Hardware, outlet: &mut Outlet, clock:
         outlet.old.sender.sent outlet.new.sender.sent clock }
     ensures all { result ≡ true → channel_of (state_of hardware.new) outlet.old.channel ≡ [] }
     ensures channel { outlet.new.channel ≡ outlet.old.channel }
+    ensures table { outlet.new.sender.channel ≡ outlet.old.sender.channel }
     ensures config { hardware.new.config ≡ hardware.old.config }
 {
     for _ in 0..MOST_SENT {
@@ -57,6 +58,7 @@ impl Agent {
         ensures all { result ≡ true → (channel : channels.Channel) → IsChannel self.old.hardware.config channel
             → IsOutward self.old.hardware.config self.old.number channel → channel_of (state_of self.new.hardware) channel ≡ [] }
         ensures outlets { map outlet_channel self.new.outlets.items ≡ map outlet_channel self.old.outlets.items }
+        ensures tables { map outlet_table self.new.outlets.items ≡ map outlet_table self.old.outlets.items }
         ensures inlets { self.new.inlets ≡ self.old.inlets }
         ensures number { self.new.number ≡ self.old.number }
         ensures clock { self.new.clock ≡ self.old.clock }

@@ -5,7 +5,7 @@ ghost use Rattle.bk_system.specs.Routes.{channel_of, IsChannel};
 ghost use Rattle.bk_system.specs.Systems.{state_of};
 ghost use Rattle.bk_threads.specs.System.{messages_of};
 ghost use Rattle.bk_rounds.specs.Reading.{packet_of};
-ghost use Rattle.bk_rounds.specs.Ends.{took, inlet_channel, AreInlets};
+ghost use Rattle.bk_rounds.specs.Ends.{took, inlet_channel, inlet_table, AreInlets};
 ghost use Rattle.bk_rounds.specs.Moves.{Brings, Takes};
 
 use crate::agent::Agent;
@@ -45,6 +45,7 @@ fn take_from<R: Wait>(
     ensures brings { IfOk result (Brings hardware.old.config inlet.old.channel (state_of hardware.old) (state_of hardware.new)
         inlet.old.receiver.taken inlet.new.receiver.taken clock) }
     ensures channel { inlet.new.channel ≡ inlet.old.channel }
+    ensures table { inlet.new.receiver.channel ≡ inlet.old.receiver.channel }
     ensures config { hardware.new.config ≡ hardware.old.config }
 {
     for _ in 0..TAKEN_AT_ONCE {
@@ -65,6 +66,7 @@ impl Agent {
             (state_of self.new.hardware) (took self.old.hardware.config self.old.inlets.items)
             (took self.old.hardware.config self.new.inlets.items) self.old.clock self.new.clock) }
         ensures inlets { map inlet_channel self.new.inlets.items ≡ map inlet_channel self.old.inlets.items }
+        ensures tables { map inlet_table self.new.inlets.items ≡ map inlet_table self.old.inlets.items }
         ensures outlets { self.new.outlets ≡ self.old.outlets }
         ensures number { self.new.number ≡ self.old.number }
         ensures entries { self.new.entries ≡ self.old.entries }

@@ -15,6 +15,7 @@ pub loop-init : goal.loop-init
 loop-init g c = record {
   config = refl;
   channel = refl;
+  table = refl;
   sheds = sheds-none c.args.hardware.now.config c.args.outlet.now.channel (state_of c.args.hardware.now) c.args.outlet.now.sender.sent
       c.args.clock;
 }
@@ -35,6 +36,9 @@ returns-in_default-clause-all g c =
 pub returns-in_default-clause-channel : goal.returns-in_default-clause-channel
 returns-in_default-clause-channel g c = c.loop.invariant.channel
 
+pub returns-in_default-clause-table : goal.returns-in_default-clause-table
+returns-in_default-clause-table g c = c.loop.invariant.table
+
 pub returns-in_default-clause-config : goal.returns-in_default-clause-config
 returns-in_default-clause-config g c = c.loop.invariant.config
 
@@ -46,6 +50,9 @@ returns-then-is_err-clause-sheds g c =
 
 pub returns-then-is_err-clause-channel : goal.returns-then-is_err-clause-channel
 returns-then-is_err-clause-channel g c = c.loop.invariant.channel
+
+pub returns-then-is_err-clause-table : goal.returns-then-is_err-clause-table
+returns-then-is_err-clause-table g c = c.send.ensures.end.0 ∙ c.loop.invariant.table
 
 pub returns-then-is_err-clause-config : goal.returns-then-is_err-clause-config
 returns-then-is_err-clause-config g c = c.loop.invariant.config
@@ -61,6 +68,7 @@ loop-preserved g c =
     record {
       config = c.drop_head.ensures.config ∙ c.loop.invariant.config;
       channel = c.loop.invariant.channel;
+      table = c.send.ensures.end.0 ∙ c.loop.invariant.table;
       sheds = sheds-more c.args.hardware.now.config c.args.outlet.now.channel c.loop.outlet.channel (state_of c.args.hardware.now)
           (state_of c.loop.hardware) (state_of c.drop_head.new.self) c.args.outlet.now.sender.sent c.loop.outlet.sender.sent
           c.send.new.self.sent c.packet_with-packet.result c.in-Some.message.now c.args.clock c.loop.invariant.channel
@@ -84,6 +92,9 @@ returns-clause-all g c =
 
 pub returns-clause-channel : goal.returns-clause-channel
 returns-clause-channel g c = c.loop.invariant.channel
+
+pub returns-clause-table : goal.returns-clause-table
+returns-clause-table g c = c.loop.invariant.table
 
 pub returns-clause-config : goal.returns-clause-config
 returns-clause-config g c = c.loop.invariant.config

@@ -7,6 +7,7 @@ abbrev pub invariant-loop : goal.invariant-loop
 invariant-loop g l = record {
   config : l.hardware.config ≡ l.fn.hardware.config;
   channel : l.outlet.channel ≡ l.fn.outlet.channel;
+  table : l.outlet.sender.channel ≡ l.fn.outlet.sender.channel;
   sheds : Sheds l.fn.hardware.config l.fn.outlet.channel (state_of l.fn.hardware) (state_of l.hardware) l.fn.outlet.sender.sent
       l.outlet.sender.sent l.fn.clock;
 }

@@ -10,6 +10,7 @@ pub loop-init : goal.loop-init
 loop-init g c = record {
   config = refl;
   channel = refl;
+  table = refl;
   brings = brings-none c.args.hardware.now.config c.args.inlet.now.channel (state_of c.args.hardware.now) c.args.inlet.now.receiver.taken
       c.args.clock;
 }
@@ -23,6 +24,9 @@ returns-in_default-clause-brings g c =
 pub returns-in_default-clause-channel : goal.returns-in_default-clause-channel
 returns-in_default-clause-channel g c = c.loop.invariant.channel
 
+pub returns-in_default-clause-table : goal.returns-in_default-clause-table
+returns-in_default-clause-table g c = c.take.ensures.end.0 ∙ c.loop.invariant.table
+
 pub returns-in_default-clause-config : goal.returns-in_default-clause-config
 returns-in_default-clause-config g c = c.loop.invariant.config
 
@@ -33,6 +37,9 @@ put_in-requires g c =
 
 pub returns-in_err-put_in-clause-channel : goal.returns-in_err-put_in-clause-channel
 returns-in_err-put_in-clause-channel g c = c.loop.invariant.channel
+
+pub returns-in_err-put_in-clause-table : goal.returns-in_err-put_in-clause-table
+returns-in_err-put_in-clause-table g c = c.take.ensures.end.0 ∙ c.loop.invariant.table
 
 pub returns-in_err-put_in-clause-config : goal.returns-in_err-put_in-clause-config
 returns-in_err-put_in-clause-config g c = c.put_in.ensures.config ∙ c.loop.invariant.config
@@ -45,6 +52,7 @@ loop-preserved g c =
     record {
       config = c.put_in.ensures.config ∙ c.loop.invariant.config;
       channel = c.loop.invariant.channel;
+      table = c.take.ensures.end.0 ∙ c.loop.invariant.table;
       brings = brings-more c.args.hardware.now.config c.loop.hardware.config c.args.inlet.now.channel c.loop.inlet.channel
           (state_of c.args.hardware.now) (state_of c.loop.hardware) (state_of c.put_in.new.hardware) c.args.inlet.now.receiver.taken
           c.loop.inlet.receiver.taken c.take.new.self.taken c.in-Some.packet c.args.clock c.loop.clock c.max-clock.result
@@ -56,6 +64,9 @@ returns-clause-brings g c = c.loop.invariant.brings
 
 pub returns-clause-channel : goal.returns-clause-channel
 returns-clause-channel g c = c.loop.invariant.channel
+
+pub returns-clause-table : goal.returns-clause-table
+returns-clause-table g c = c.loop.invariant.table
 
 pub returns-clause-config : goal.returns-clause-config
 returns-clause-config g c = c.loop.invariant.config

@@ -1,8 +1,9 @@
-use Rattle.std.proofs.Common.{◌≡◌, ◌<◌, ◌≤◌, ℕ, [], map, length, set, refl, subst, ◌∙◌, arith}
+use Rattle.std.proofs.Common.{◌≡◌, ◌<◌, ◌≤◌, ℕ, [], map, length, set, refl, ap, subst, ◌∙◌, arith}
+use Rattle.std.proofs.Math.Seq.{map-set_same}
 use Rattle.std.proofs.lemmas.List.Elements.{AllWithin-none, AllWithin-upto, All-from_all_within}
 use Rattle.bk_system.specs.Routes.{IsChannel, channel_of}
 use Rattle.bk_system.specs.Systems.{state_of}
-use Rattle.bk_rounds.specs.Ends.{sent, outlet_channel}
+use Rattle.bk_rounds.specs.Ends.{sent, outlet_channel, outlet_table}
 use Rattle.bk_rounds.specs.Moves.{Sheds}
 use Rattle.bk_rounds.proofs.AtEnds.{sends-at, empty-next}
 use Rattle.bk_rounds.proofs.Channels.{is-channel}
@@ -17,6 +18,7 @@ loop-place-init g c = record {
   inlets = refl;
   clock = refl;
   entries = refl;
+  tables = refl;
   outlets = refl;
   empty = AllWithin-none (λ channel. channel_of (state_of c.args.self.now.hardware) channel ≡ [])
       (map outlet_channel c.args.self.now.outlets.items) 0;
@@ -63,6 +65,11 @@ returns-then-not-send_to-clause-outlets g c =
     channels-kept outlet_channel c.loop-place.self.outlets.items c.loop-place.place c.index_mut-outlet.result.now c.send_to.new.outlet
     c.index_mut-outlet.ensures.value c.send_to.ensures.channel ∙ c.loop-place.invariant.outlets
 
+pub returns-then-not-send_to-clause-tables : goal.returns-then-not-send_to-clause-tables
+returns-then-not-send_to-clause-tables g c =
+    map-set_same outlet_table c.loop-place.self.outlets.items c.loop-place.place c.send_to.new.outlet c.index_mut-outlet.result.now
+    (c.send_to.ensures.table ∙ ap outlet_table c.index_mut-outlet.ensures.value) ∙ c.loop-place.invariant.tables
+
 pub returns-then-not-send_to-clause-inlets : goal.returns-then-not-send_to-clause-inlets
 returns-then-not-send_to-clause-inlets g c = c.loop-place.invariant.inlets
 
@@ -97,6 +104,9 @@ loop-place-preserved g c =
       inlets = c.loop-place.invariant.inlets;
       clock = c.loop-place.invariant.clock;
       entries = c.loop-place.invariant.entries;
+      tables = map-set_same outlet_table c.loop-place.self.outlets.items c.loop-place.place c.send_to.new.outlet
+          c.index_mut-outlet.result.now
+          (c.send_to.ensures.table ∙ ap outlet_table c.index_mut-outlet.ensures.value) ∙ c.loop-place.invariant.tables;
       outlets = channels-kept outlet_channel c.loop-place.self.outlets.items c.loop-place.place c.index_mut-outlet.result.now
           c.send_to.new.outlet
           c.index_mut-outlet.ensures.value c.send_to.ensures.channel ∙ c.loop-place.invariant.outlets;
@@ -132,6 +142,9 @@ returns-clause-all g c =
 
 pub returns-clause-outlets : goal.returns-clause-outlets
 returns-clause-outlets g c = c.loop-place.invariant.outlets
+
+pub returns-clause-tables : goal.returns-clause-tables
+returns-clause-tables g c = c.loop-place.invariant.tables
 
 pub returns-clause-inlets : goal.returns-clause-inlets
 returns-clause-inlets g c = c.loop-place.invariant.inlets

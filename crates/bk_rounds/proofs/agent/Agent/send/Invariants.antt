@@ -2,7 +2,7 @@ use Rattle.std.proofs.Common.{◌≡◌, [], map}
 use Rattle.std.specs.List.{AllWithin}
 use Rattle.bk_system.specs.Routes.{channel_of}
 use Rattle.bk_system.specs.Systems.{state_of}
-use Rattle.bk_rounds.specs.Ends.{sent, outlet_channel}
+use Rattle.bk_rounds.specs.Ends.{sent, outlet_channel, outlet_table}
 use Rattle.bk_rounds.specs.Moves.{Sends}
 use Rattle.bk_rounds.proofs.agent.Agent.send.Given as goal
 
@@ -14,6 +14,7 @@ invariant-loop-place g l = record {
   inlets : l.self.inlets ≡ l.fn.self.inlets;
   clock : l.self.clock ≡ l.fn.self.clock;
   entries : l.self.entries ≡ l.fn.self.entries;
+  tables : map outlet_table l.self.outlets.items ≡ map outlet_table l.fn.self.outlets.items;
   outlets : map outlet_channel l.self.outlets.items ≡ map outlet_channel l.fn.self.outlets.items;
   empty : AllWithin (λ channel. channel_of (state_of l.self.hardware) channel ≡ [])
       (map outlet_channel l.fn.self.outlets.items) 0 l.place;

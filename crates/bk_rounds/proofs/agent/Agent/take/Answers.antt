@@ -1,7 +1,8 @@
-use Rattle.std.proofs.Common.{◌<◌, map, length, set, refl, ◌∙◌, arith}
+use Rattle.std.proofs.Common.{◌<◌, map, length, set, refl, ap, ◌∙◌, arith}
+use Rattle.std.proofs.Math.Seq.{map-set_same}
 use Rattle.bk_system.specs.Routes.{IsChannel}
 use Rattle.bk_system.specs.Systems.{state_of}
-use Rattle.bk_rounds.specs.Ends.{took, inlet_channel}
+use Rattle.bk_rounds.specs.Ends.{took, inlet_channel, inlet_table}
 use Rattle.bk_rounds.proofs.AtEnds.{takes-at}
 use Rattle.bk_rounds.proofs.Channels.{is-channel}
 use Rattle.bk_rounds.proofs.EndLists.{all-at, as-many, channels-kept}
@@ -14,6 +15,7 @@ loop-place-init g c = record {
   config = refl;
   outlets = refl;
   entries = refl;
+  tables = refl;
   inlets = refl;
   takes = takes-none c.args.self.now.hardware.config c.args.self.now.number (state_of c.args.self.now.hardware)
       (took c.args.self.now.hardware.config c.args.self.now.inlets.items) c.args.self.now.clock;
@@ -35,6 +37,11 @@ pub returns-in_err-self-clause-inlets : goal.returns-in_err-self-clause-inlets
 returns-in_err-self-clause-inlets g c =
     channels-kept inlet_channel c.loop-place.self.inlets.items c.loop-place.place c.index_mut-inlet.result.now c.take_from.new.inlet
     c.index_mut-inlet.ensures.value c.take_from.ensures.channel ∙ c.loop-place.invariant.inlets
+
+pub returns-in_err-self-clause-tables : goal.returns-in_err-self-clause-tables
+returns-in_err-self-clause-tables g c =
+    map-set_same inlet_table c.loop-place.self.inlets.items c.loop-place.place c.take_from.new.inlet c.index_mut-inlet.result.now
+    (c.take_from.ensures.table ∙ ap inlet_table c.index_mut-inlet.ensures.value) ∙ c.loop-place.invariant.tables
 
 pub returns-in_err-self-clause-outlets : goal.returns-in_err-self-clause-outlets
 returns-in_err-self-clause-outlets g c = c.loop-place.invariant.outlets
@@ -62,6 +69,8 @@ loop-place-preserved g c =
       config = c.take_from.ensures.config ∙ c.loop-place.invariant.config;
       outlets = c.loop-place.invariant.outlets;
       entries = c.loop-place.invariant.entries;
+      tables = map-set_same inlet_table c.loop-place.self.inlets.items c.loop-place.place c.take_from.new.inlet c.index_mut-inlet.result.now
+          (c.take_from.ensures.table ∙ ap inlet_table c.index_mut-inlet.ensures.value) ∙ c.loop-place.invariant.tables;
       inlets = channels-kept inlet_channel items c.loop-place.place c.index_mut-inlet.result.now c.take_from.new.inlet
           c.index_mut-inlet.ensures.value c.take_from.ensures.channel ∙ c.loop-place.invariant.inlets;
       takes = takes-twice k n (state_of c.args.self.now.hardware) (state_of c.loop-place.self.hardware)
@@ -78,6 +87,9 @@ returns-clause-takes g c = c.loop-place.invariant.takes
 
 pub returns-clause-inlets : goal.returns-clause-inlets
 returns-clause-inlets g c = c.loop-place.invariant.inlets
+
+pub returns-clause-tables : goal.returns-clause-tables
+returns-clause-tables g c = c.loop-place.invariant.tables
 
 pub returns-clause-outlets : goal.returns-clause-outlets
 returns-clause-outlets g c = c.loop-place.invariant.outlets
