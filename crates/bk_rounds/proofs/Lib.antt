@@ -6,11 +6,13 @@ pub mod Brings
 pub mod Channels
 pub mod Choices
 pub mod EndLists
+pub mod Joining
 pub mod Making
 pub mod SameAgents
 pub mod Spelled
 pub mod Streams
 pub mod TakesSends
+pub mod Teams
 pub mod Through
 pub mod WorkMakes
 pub mod WorkTakes
