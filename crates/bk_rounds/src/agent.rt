@@ -10,6 +10,7 @@ use bk_threads::Stamped;
 pub struct Agent {
     /// Its number: that of a cache, then the engine, then the memory.
     pub number: u8,
+    /// Its own, of the configuration of the system.
     pub hardware: Hardware,
     /// Of the channels that lead to it from other agents.
     pub inlets: Vec<Inlet>,
@@ -19,6 +20,6 @@ pub struct Agent {
     pub turns: u64,
     /// The greatest stamp that it has given to an event or seen on a packet.
     pub clock: u64,
-    /// Its events, the oldest first.
+    /// Its events of the round, the oldest first, each with its stamp.
     pub entries: Vec<Stamped>,
 }

@@ -39,7 +39,8 @@ enum Turn {
 }
 
 impl Agent {
-    /// Makes an event of the agent, with the next stamp, and notes it in the journal. None where none is enabled.
+    /// Makes an event of the agent, with this stamp, and notes it in the journal. Answers whether one was enabled; if not, nothing has
+    /// changed.
     fn make<F: Fn(&[WayView]) -> u8 + Copy + Send>(
         &mut self,
         stamp: u64,
@@ -117,8 +118,14 @@ impl Agent {
         }
     }
 
-    /// A round of the agent: turns, until it has made 64 events, or has found 256 times that none is enabled, or can't go on. Answers
-    /// whether it found at last that none is enabled.
+    /// A round of the agent, on ends of channels from which nothing was taken and to which nothing was sent (`IsFresh`): turns, until it
+    /// has made 64 events, or has found 256 times that none is enabled, or can't go on. Answers whether it found at last that none is
+    /// enabled.
+    /// What it has done is `IsWork` (docs/THREADS.md, "A round"). It may wait, as its channels may.
+    ///
+    /// # Errors
+    ///
+    /// `AllocError` where the memory runs out; nothing is promised of the agent then.
     pub fn round<R: Wait, F: Fn(&[WayView]) -> u8 + Copy + Send, G: Gate>(
         &mut self,
         rt: &R,
