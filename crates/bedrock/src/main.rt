@@ -6,13 +6,16 @@ ghost use Rattle.std.specs.Prelude.{◌≡◌, ◌≢◌, IsTrue};
 ghost use Rattle.std.specs.IoError.{error_kind};
 ghost use Rattle.bk_cmd.specs.Outcomes.{is_status};
 
-use bk_cmd::{MEMORY, OK, Outcome, USAGE, fault_line, run_plain};
+use bk_cmd::{MEMORY, OK, Outcome, USAGE, fault_line, is_threads, run_plain, run_threads};
 use bk_lce::{Victim, WayView, oldest};
-use bk_outer::{FileShelf, StdSink};
+use bk_outer::{FileShelf, Free, StdSink};
 use std::alloc::Global;
 use std::env;
 use std::io::{self, ErrorKind};
 use std::process::ExitCode;
+use std::rt::Files;
+use std::sync::Wait;
+use std::thread::Threads;
 
 /// The words of the command line without the program's name.
 fn words_of(rt: &HostRuntime) -> io::Result<Vec<String>> {
@@ -44,28 +47,25 @@ fn no_words(alloc: Global, error: &io::Error) -> Outcome
     }
 }
 
-/// How the command line ended, over the files and the output of the system.
-fn run(rt: &HostRuntime) -> Outcome
+/// How the command of the words ended, over the files and the output of the system.
+fn run<R: Files + Print + Threads + Wait + Sync>(rt: &R, alloc: Global, words: &[String]) -> Outcome
     ensures { IsTrue (is_status result.status) }
 {
-    match words_of(rt) {
-        Ok(words) => {
-            let mut shelf = FileShelf::make(rt);
-            let mut sink = StdSink::make(rt);
-            run_plain(
-                rt.alloc(),
-                &words,
-                &mut shelf,
-                &mut sink,
-                Victim::store(|views: &[WayView]| oldest(views)),
-            )
-        }
-        Err(error) => no_words(rt.alloc(), &error),
+    let mut shelf = FileShelf::make(rt);
+    let mut sink = StdSink::make(rt);
+    let victim = Victim::store(|views: &[WayView]| oldest(views));
+    if is_threads(words) {
+        run_threads(rt, alloc, words, &mut shelf, &mut sink, victim, &Free)
+    } else {
+        run_plain(alloc, words, &mut shelf, &mut sink, victim)
     }
 }
 
 fn main(rt: HostRuntime) -> ExitCode {
-    let outcome = run(&rt);
+    let outcome = match words_of(&rt) {
+        Ok(words) => run(&rt, rt.alloc(), &words),
+        Err(error) => no_words(rt.alloc(), &error),
+    };
     if outcome.status != OK {
         let _ = eprintln!(rt; "{}", fault_line(&outcome));
     }

@@ -1,4 +1,4 @@
--- The greedy run of a bounded image comes to its end before its budget is used up.
+-- A run of a bounded image keeps to its budget, and the greedy one comes to its end before that is used up.
 use Rattle.std.proofs.Common.{◌≡◌, ℕ, ◌+◌, ◌≤◌, ◌<◌, List, [], ◌∷◌, ◌++◌, Bool, Option, Some, None, refl, ap, sym, subst, length, length-append, arith}
 use Rattle.std.specs.Prelude.{if◌then◌else◌, option_and_then, option_map, IsSome}
 use Rattle.std.specs.List.{All}
@@ -15,12 +15,12 @@ use Rattle.bk_lce.specs.declared.line.WayView.{WayView}
 use Rattle.bk_system.specs.declared.event.Event.{Event}
 use Rattle.bk_system.specs.declared.event.Event.TheVariants.{Issue}
 use Rattle.bk_system.specs.State.{State, opening}
-use Rattle.bk_system.specs.Runs.{run, is_enabled, completed_by}
+use Rattle.bk_system.specs.Runs.{run, is_enabled, completed_by, IsTight, IsInOrder}
 use Rattle.bk_bound.specs.Bound.{IsBounded, IsWithinBudget}
 use Rattle.bk_run.specs.Greedy.{next_operation, ready_operation, issue_with, least_other, IsGreedy}
 use Rattle.bk_run.specs.Serial.{IsSpent}
 use Rattle.bk_run.proofs.InOrder.{greedy-in_order}
-use Rattle.bk_run.proofs.Lawful.{greedy_from-lawful}
+use Rattle.bk_run.proofs.Lawful.{in_order-lawful}
 use Rattle.bk_run.proofs.Scheduling.{greedy_from-more}
 use Rattle.bk_run.proofs.Tight.{greedy-tight, least-unready, some-ways}
 use Rattle.bk_cmd.specs.Replays.{job_for, budget_for}
@@ -36,6 +36,15 @@ no-ready k program s = first_below-never k.caches (ready_operation k program s [
 too-many : (n number most : ℕ) → n ≡ most → number ≡ n + 1 → number ≤ most → ⊥
 too-many n number most spent more within = omega (arith, spent, more, within)
 
+-- A list of a bounded image over a trace, each event enabled where it stands and each cache's operations issued in order, is within the
+-- budget.
+pub tight-within : (image : images.Parts) (trace : traces.Parts) (events : List Event) → IsBounded image.instrs → InProfile trace.config
+    → All (IsLine trace.config.caches) trace.lines → IsTight trace.config image.instrs events
+    → IsInOrder trace.config trace.lines events → IsWithinBudget trace.config image.instrs trace.lines events
+tight-within image trace events bounded profile lines tight in_order =
+    bounded.traces trace.config trace.lines events profile
+    (in_order-lawful trace.config image.instrs trace.lines events lines tight in_order) tight in_order
+
 module _ (policy : List WayView → ℕ → Type 0) (image : images.Parts) (trace : traces.Parts) (bounded : IsBounded image.instrs)
     (profile : InProfile trace.config) (lines : All (IsLine trace.config.caches) trace.lines)
   where
@@ -43,9 +52,7 @@ module _ (policy : List WayView → ℕ → Type 0) (image : images.Parts) (trac
         → IsWithinBudget trace.config image.instrs trace.lines events
     within events greedy =
         let job = job_for policy image trace in
-        bounded.traces trace.config trace.lines events profile
-        (greedy_from-lawful job trace.config.caches (opening trace.config) events lines greedy) (greedy-tight job events greedy)
-        (greedy-in_order job events greedy)
+        tight-within image trace events bounded profile lines (greedy-tight job events greedy) (greedy-in_order job events greedy)
 
     -- no cache is ready, so the schedule takes the event that is still enabled: the list with it is greedy too, and one too long
     one-more : (events : List Event) (complete : Bool) (o : Option Event) → IsSpent (job_for policy image trace) events complete

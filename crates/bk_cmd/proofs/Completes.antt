@@ -14,10 +14,11 @@ use Rattle.bk_trace.specs.Reading.{trace_at}
 use Rattle.bk_trace.proofs.Whole.{agrees, read_some}
 use Rattle.bk_cmd.specs.Answers.{Refuses, Fault, VerdictOn, AssemblyOf, DisassemblyOf, SaysOf, bad_at}
 use Rattle.bk_cmd.specs.Inputs.{Files, FileHolds, since}
-use Rattle.bk_cmd.specs.Needs.{IsImageFile, IsAcceptedFile, IsTraceFile, Suits, IsThere, HasFiles}
+use Rattle.bk_cmd.specs.Needs.{IsImageFile, IsAcceptedFile, IsTraceFile, Suits, IsThere, HasInputs, HasFiles}
 use Rattle.bk_cmd.specs.Ends.{OfCommand}
 use Rattle.bk_cmd.specs.Outcomes.{Facts, facts_of, facts_of_stop}
 use Rattle.bk_cmd.specs.Stops.{GaveNone, IsStop, IsMissingInput, IsBadInput, ImageIsRefused, bad_in}
+use Rattle.bk_cmd.specs.Threads.{threads_of, OfThreads}
 use Rattle.bk_cmd.specs.Words.{Command, OfFile, Source, Generate, Replay, command_of}
 use Rattle.bk_cmd.specs.declared.outcome.Outcome.{Outcome}
 use Rattle.bk_cmd.specs.declared.outcome.Stop.{Stop}
@@ -25,6 +26,7 @@ use Rattle.bk_cmd.specs.declared.outcome.Stop.TheVariants.{Memory, Usage, Unread
 use Rattle.bk_cmd.specs.declared.outcome.TheConstants.{MEMORY}
 use Rattle.bk_cmd.specs.declared.outcome.Unread as unread
 use Rattle.bk_cmd.specs.declared.outcome.Unread.TheVariants.{Absent, Failed, TooLong}
+use Rattle.bk_cmd.specs.declared.words.Output.TheVariants.{Report}
 use Rattle.bk_cmd.specs.declared.words.Question.{Question}
 use Rattle.bk_cmd.specs.declared.words.Question.TheVariants.{Verdict, Assembly, Disassembly}
 
@@ -121,7 +123,7 @@ module _ (files : Files) (image trace : List ℕ) (first : IsThere files.at imag
         not-refused h.bytes at obligation
         (suited files image IsAcceptedFile first (λ bytes. VerdictOn (image_at bytes) (Refuses at obligation)) h) h.holds
 
-pub only-memory : (files : Files) (command : Command) (failed missed : Type 0) (stop : Stop) → HasFiles files.at command
+only-memory : (files : Files) (command : Command) (failed missed : Type 0) (stop : Stop) → HasFiles files.at command
     → (failed → ⊥) → IsStop files command failed missed stop → stop ≡ Memory
 only-memory files command failed missed Memory has whole h = refl
 only-memory files command failed missed Usage has whole h = absurd (h)
@@ -148,10 +150,23 @@ only-memory files (Replay output image trace) failed missed (Refused refusal) ha
     absurd (image-accepted files image trace has.0 has.1 failed missed whole refusal.at refusal.obligation h)
 
 -- so the status is that of memory
+by-memory : (files : Files) (command : Command) (failed missed : Type 0) (stop : Stop) (o : Outcome) → HasFiles files.at command
+    → (failed → ⊥) → IsStop files command failed missed stop → facts_of o ≡ facts_of_stop stop → o.status ≡ MEMORY
+by-memory files command failed missed stop o has whole stops facts =
+    ap (λ (f : Facts). f.status) facts
+    ∙ ap (λ (x : Stop). (facts_of_stop x).status) (only-memory files command failed missed stop has whole stops)
+
 pub stopped-by-memory : (files : Files) (words : List (String Global)) (command : Command) (failed missed : Type 0) (stop : Stop)
     (o : Outcome) → command_of words ≡ Some command → OfCommand words (HasFiles files.at) → (failed → ⊥)
     → IsStop files command failed missed stop → facts_of o ≡ facts_of_stop stop → o.status ≡ MEMORY
 stopped-by-memory files words command failed missed stop o is has whole stops facts =
-    let here : HasFiles files.at command = subst (λ (found : Option Command). IsSomeAnd found (HasFiles files.at)) is has in
-    ap (λ (f : Facts). f.status) facts
-    ∙ ap (λ (x : Stop). (facts_of_stop x).status) (only-memory files command failed missed stop here whole stops)
+    by-memory files command failed missed stop o
+    (subst (λ (found : Option Command). IsSomeAnd found (HasFiles files.at)) is has) whole stops facts
+
+-- of `replay threads` too
+pub threads-by-memory : (files : Files) (words : List (String Global)) (image trace : List ℕ) (failed missed : Type 0) (stop : Stop)
+    (o : Outcome) → threads_of words ≡ Some (image, trace) → OfThreads words (HasInputs files.at) → (failed → ⊥)
+    → IsStop files (Replay Report image trace) failed missed stop → facts_of o ≡ facts_of_stop stop → o.status ≡ MEMORY
+threads-by-memory files words image trace failed missed stop o is has whole stops facts =
+    by-memory files (Replay Report image trace) failed missed stop o
+    (subst (λ (found : Option (List ℕ × List ℕ)). IsSomeAnd found (λ names. HasInputs files.at names.0 names.1)) is has) whole stops facts

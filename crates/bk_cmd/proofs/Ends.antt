@@ -11,18 +11,16 @@ use Rattle.bk_run.specs.declared.serial_runs.SerialFault.{SerialFault}
 use Rattle.bk_run.specs.declared.serial_runs.SerialFault.TheVariants.{Spent, Unreported, Memory}
 use Rattle.bk_run.specs.Jobs.{job_of}
 use Rattle.bk_run.specs.Serial.{IsEnded, IsFault}
-use Rattle.bk_run.proofs.Lawful.{greedy_from-lawful}
-use Rattle.bk_system.specs.State.{opening}
+use Rattle.bk_run.proofs.Lawful.{in_order-lawful}
+use Rattle.bk_system.specs.Runs.{IsTight, IsInOrder}
 use Rattle.bk_coherent.specs.Coherent.{StaysCoherent}
 use Rattle.bk_bound.specs.Bound.{IsBounded}
 use Rattle.bk_sound.specs.Sound.{IsSound}
 use Rattle.bk_sound.proofs.Stays.{stays-coherent}
 use Rattle.bk_system.specs.declared.event.Event.{Event}
 use Rattle.bk_run.specs.Report.{IsReport}
-use Rattle.bk_cmd.specs.declared.outcome.Outcome.{Outcome}
 use Rattle.bk_cmd.specs.declared.words.Output.{Output}
-use Rattle.bk_cmd.specs.Replays.{budget_for, job_for, RunEnds, IsRunFault, log_due, IsDue, Reported, ReportedPart}
-use Rattle.bk_cmd.specs.Writes.{Wrote, WrotePart}
+use Rattle.bk_cmd.specs.Replays.{budget_for, job_for, RunEnds, IsRunFault, log_due, IsDue, Replayed}
 use Rattle.bk_cmd.proofs.Finishes.{ended-complete}
 use Rattle.bk_cmd.proofs.Budgets.{never-spent}
 
@@ -49,7 +47,7 @@ module _ (policy : List WayView → ℕ → Type 0) (given image : images.Parts)
         whole : (events : List Event) (complete : Bool) → IsEnded (job_for policy image trace) events complete
             → RunEnds policy image trace events
         whole events complete h = subst (IsEnded (job_for policy image trace) events)
-            (ended-complete policy image trace (budget_for image trace) events complete sound profile lines h) h
+            (ended-complete (job_for policy image trace) events complete sound profile lines h) h
 
         fault-of : (fault : SerialFault) → IsFault (job_for policy image trace) fault → IsRunFault policy image trace fault
         fault-of (Spent end) h = never-spent policy image trace bounded profile lines end.events.items end.complete h
@@ -81,41 +79,38 @@ module _ (policy : List WayView → ℕ → Type 0) (given image : images.Parts)
         subst (λ (p : images.Parts). run.log.items ≡ log_due output p trace run.end.events.items) is h
     log-told output (Err fault) h = tt
 
--- a run of a sound image over a trace is coherent at the opening and after each of its events
+-- A run of a sound image over a trace, each event enabled where it stands and each cache's operations issued in order, is coherent at the
+-- opening and after each of its events.
+pub tight-coherent : (image : images.Parts) (trace : traces.Parts) (events : List Event) → IsSound image.instrs → InProfile trace.config
+    → All (IsLine trace.config.caches) trace.lines → IsTight trace.config image.instrs events
+    → IsInOrder trace.config trace.lines events → StaysCoherent trace.config image.instrs events
+tight-coherent image trace events sound profile lines tight in_order =
+    stays-coherent trace.config image.instrs events sound profile
+    (in_order-lawful trace.config image.instrs trace.lines events lines tight in_order)
+
 pub run-coherent : (policy : List WayView → ℕ → Type 0) (image : images.Parts) (trace : traces.Parts)
     (result : Result LoggedRun SerialFault)
     → IsSound image.instrs → InProfile trace.config → All (λ line. IsLine trace.config.caches line) trace.lines
     → IfOk result (λ run. RunEnds policy image trace run.end.events.items)
     → IfOk result (λ run. StaysCoherent trace.config image.instrs run.end.events.items)
 run-coherent policy image trace (Ok run) sound profile lines h =
-    stays-coherent trace.config image.instrs run.end.events.items sound profile
-    (greedy_from-lawful (job_for policy image trace) trace.config.caches (opening trace.config) run.end.events.items lines h.made.greedy)
+    tight-coherent image trace run.end.events.items sound profile lines h.made.tight h.made.in_order
 run-coherent policy image trace (Err fault) sound profile lines h = tt
 
--- what is due of a run that was complete, where the sink took all of it and where it took a part
-module _ (policy : List WayView → ℕ → Type 0) (output : Output) (image : images.Parts) (trace : traces.Parts) (o : Outcome)
-    (before after : List ℕ)
-    (es : List Event) (log report : List ℕ) (is : o.events.items ≡ es) (ended : RunEnds policy image trace es)
+-- what is due of a run that ended so, and of which something holds
+module _ (Ends : List Event → Type 0) (output : Output) (image : images.Parts) (trace : traces.Parts) (Holds : List ℕ → Type 0)
+    (events es : List Event) (log report : List ℕ) (is : events ≡ es) (ended : Ends es)
     (coherent : StaysCoherent trace.config image.instrs es) (is_report : IsReport trace.config image.instrs trace.lines es report)
     (is_log : log ≡ log_due output image trace es) where
-  due : IsDue output image trace o.events.items (log ++ report)
+  due : IsDue output image trace events (log ++ report)
   due = subst (λ (vs : List Event). IsDue output image trace vs (log ++ report)) (sym is)
       (record { report = report; is_report = is_report; whole = ap (λ (text : List ℕ). text ++ report) is_log })
 
-  pub reported : Wrote (log ++ report) o before after → Reported policy output image trace o before after
-  reported wrote = record {
-    ended = subst (λ (vs : List Event). RunEnds policy image trace vs) (sym is) ended;
+  pub replayed : Holds (log ++ report) → Replayed Ends output image trace events Holds
+  replayed holds = record {
+    ended = subst Ends (sym is) ended;
     coherent = subst (StaysCoherent trace.config image.instrs) (sym is) coherent;
     text = log ++ report;
     is_due = due;
-    wrote = wrote;
-  }
-
-  pub reported-part : WrotePart (log ++ report) o before after → ReportedPart policy output image trace o before after
-  reported-part wrote = record {
-    ended = subst (λ (vs : List Event). RunEnds policy image trace vs) (sym is) ended;
-    coherent = subst (StaysCoherent trace.config image.instrs) (sym is) coherent;
-    text = log ++ report;
-    is_due = due;
-    wrote = wrote;
+    holds = holds;
   }

@@ -1,5 +1,5 @@
--- A greedy run of an accepted image that has come to its end has done all of its trace: where nothing is enabled the system rests, and an
--- idle cache with an operation left would be given it.
+-- A run of an accepted image that has come to its end has done all of its trace: where nothing is enabled the system rests, and an idle
+-- cache with an operation left would be given it.
 use Rattle.std.proofs.Common.{◌≡◌, ℕ, ◌+◌, ◌<◌, ◌≤◌, List, Bool, true, false, Option, Some, None, refl, ap, sym, ◌∙◌, subst, inl, inr, length, length-append, slice_get, arith}
 use Rattle.std.specs.Prelude.{◌&&◌, ◌==◌, if◌then◌else◌, is_none, is_some, nat_lt, not, option_and_then, option_map}
 use Rattle.std.specs.List.{All}
@@ -11,11 +11,8 @@ use Rattle.bk_base.specs.declared.op.Op.{Op}
 use Rattle.bk_base.proofs.Below.{first_below-none}
 use Rattle.bk_isa.specs.declared.form.Form.{Form}
 use Rattle.bk_isa.specs.declared.form.Form.TheVariants.{Wfq}
-use Rattle.bk_image.specs.Images as images
-use Rattle.bk_trace.specs.Traces as traces
 use Rattle.bk_trace.specs.Traces.{operations_of, IsLine}
 use Rattle.bk_lce.specs.declared.line.InProgress.{InProgress}
-use Rattle.bk_lce.specs.declared.line.WayView.{WayView}
 use Rattle.bk_lce.specs.CacheTable.{Transition, issue_row, if_idle}
 use Rattle.bk_engine.specs.declared.parts.Choice.{Choice}
 use Rattle.bk_engine.specs.declared.parts.Head.{Head}
@@ -24,18 +21,18 @@ use Rattle.bk_engine.specs.Stops.{wait_stop, stop_at}
 use Rattle.bk_engine.specs.declared.parts.TheConstants.{CLASS_NONE, CLASS_RESPONSE, CLASS_MEMORY, CLASS_REQUEST}
 use Rattle.bk_system.specs.declared.event.Event.{Event}
 use Rattle.bk_system.specs.declared.event.Event.TheVariants.{Issue, Command, Fill, Memory, Engine}
-use Rattle.bk_system.specs.State.{State, opening}
+use Rattle.bk_system.specs.State.{State}
 use Rattle.bk_system.specs.Events.{cache_row, issue_taken, command_of, fill_of, without_command, without_fill, first, offered_head, is_choice, can_run, with_outcome}
-use Rattle.bk_system.specs.Runs.{is_enabled, is_quiet, is_rested, names_requests, run, completed_by, IsPrefix}
+use Rattle.bk_system.specs.Runs.{is_enabled, is_quiet, is_rested, names_requests, run, completed_by, IsPrefix, IsTight, IsInOrder, IsComplete}
 use Rattle.bk_msg.specs.declared.row.Row.{Row}
 use Rattle.bk_coherent.specs.Traffic.{IsStuck}
 use Rattle.bk_coherent.proofs.Resting.{all-below}
 use Rattle.bk_sound.specs.Sound.{IsSound}
-use Rattle.bk_run.specs.Greedy.{if_enabled, next_operation, ready_operation, issue_with, choice_of, engine_event, fill_event, least_other}
-use Rattle.bk_run.proofs.InOrder.{greedy-completed, prefix-whole}
-use Rattle.bk_run.proofs.Lawful.{greedy_from-lawful}
+use Rattle.bk_run.specs.Greedy.{if_enabled, next_operation, ready_operation, issue_with, choice_of, engine_event, fill_event, least_other, IsEnd}
+use Rattle.bk_run.proofs.InOrder.{tight-completed, prefix-whole}
+use Rattle.bk_run.proofs.Lawful.{in_order-lawful}
 use Rattle.bk_run.proofs.Tight.{taken-some, some-ways}
-use Rattle.bk_run.specs.Jobs.{job_of}
+use Rattle.bk_run.specs.Jobs.{Job}
 use Rattle.bk_run.specs.Serial.{IsEnded}
 
 -- NOTHING IS ENABLED
@@ -256,28 +253,35 @@ prefix-length xs ys p =
 
 -- THE END
 
-pub ended-complete : (policy : List WayView → ℕ → Type 0) (image : images.Parts) (trace : traces.Parts) (limit : ℕ)
-    (events : List Event) (complete : Bool) → IsSound image.instrs → InProfile trace.config → All (IsLine trace.config.caches) trace.lines
-    → IsEnded (job_of policy image.instrs trace limit) events complete → complete ≡ true
-ended-complete policy image trace limit events complete sound profile lines ended =
-    let k = trace.config in
-    let program = image.instrs in
-    let s = run k program events in
-    let job = job_of policy image.instrs trace limit in
-    let ready = first_below k.caches (ready_operation k program s trace.lines) in
-    let none_ready = map-none (issue_with 0) ready
-    (or_else-first (option_map (issue_with 0) ready) (least_other k program s) ended.ended) in
-    let none_other = or_else-later (option_map (issue_with 0) ready) (least_other k program s) ended.ended in
-    let lawful = greedy_from-lawful job k.caches (opening k) events lines ended.made.greedy in
-    let rested : is_rested k program s ≡ true = (sound k events profile lawful).stuck_rests (stuck k program s none_other) in
-    let idle = (and_parts (is_quiet k program s && names_requests (slice_get program s.engine.core.place)
-    && all_below k.sets (λ g. not (s.engine.directory.pending g))) (all_below k.caches (λ c. is_none (s.caches c).busy)) rested).1 in
-    let whole : (c : ℕ) → c < k.caches → completed_by c s.history ≡ operations_of c trace.lines =
-    λ c l.
-    let prefix = greedy-completed job events ended.made.greedy c in
-    let none = no-next k program s trace.lines c (some-ways k profile) l (all-below k.caches (λ c. is_none (s.caches c).busy) idle c l)
-    (first_below-none k.caches (ready_operation k program s trace.lines) none_ready c l) in
-    let most = past-end (operations_of c trace.lines) (length (completed_by c s.history)) none in
-    let least = prefix-length (completed_by c s.history) (operations_of c trace.lines) prefix in
-    prefix-whole (completed_by c s.history) (operations_of c trace.lines) prefix (omega (arith, most, least)) in
-    ended.made.told.1 (record { in_order = ended.made.in_order; whole = whole; rested = rested })
+-- a list of a sound image over a trace, each event enabled where it stands and each cache's operations issued in order
+module _ (k : Shape) (program : List Form) (lines : List (ℕ × Op)) (events : List Event) (sound : IsSound program) (profile : InProfile k)
+    (each : All (IsLine k.caches) lines) (tight : IsTight k program events) (in_order : IsInOrder k lines events)
+    (end : IsEnd k program (run k program events) lines)
+  where
+    -- where nothing is enabled after it, it does all of the trace
+    pub whole-complete : IsComplete k program lines events
+    whole-complete =
+        let s = run k program events in
+        let ready = first_below k.caches (ready_operation k program s lines) in
+        let none_ready = map-none (issue_with 0) ready (or_else-first (option_map (issue_with 0) ready) (least_other k program s) end) in
+        let none_other = or_else-later (option_map (issue_with 0) ready) (least_other k program s) end in
+        let lawful = in_order-lawful k program lines events each tight in_order in
+        let rested : is_rested k program s ≡ true = (sound k events profile lawful).stuck_rests (stuck k program s none_other) in
+        let idle = (and_parts (is_quiet k program s && names_requests (slice_get program s.engine.core.place)
+        && all_below k.sets (λ g. not (s.engine.directory.pending g))) (all_below k.caches (λ c. is_none (s.caches c).busy)) rested).1 in
+        let whole : (c : ℕ) → c < k.caches → completed_by c s.history ≡ operations_of c lines =
+        λ c l.
+        let prefix = tight-completed k program lines events tight in_order c l in
+        let none = no-next k program s lines c (some-ways k profile) l (all-below k.caches (λ c. is_none (s.caches c).busy) idle c l)
+        (first_below-none k.caches (ready_operation k program s lines) none_ready c l) in
+        let most = past-end (operations_of c lines) (length (completed_by c s.history)) none in
+        let least = prefix-length (completed_by c s.history) (operations_of c lines) prefix in
+        prefix-whole (completed_by c s.history) (operations_of c lines) prefix (omega (arith, most, least)) in
+        record { in_order = in_order; whole = whole; rested = rested }
+
+-- so a run of the greedy schedule that comes to its end is complete
+pub ended-complete : (job : Job) (events : List Event) (complete : Bool) → IsSound job.program → InProfile job.config
+    → All (IsLine job.config.caches) job.operations → IsEnded job events complete → complete ≡ true
+ended-complete job events complete sound profile lines ended =
+    ended.made.told.1
+    (whole-complete job.config job.program job.operations events sound profile lines ended.made.tight ended.made.in_order ended.ended)

@@ -5,4 +5,5 @@ mod Completes
 mod Finishes
 mod Statuses
 mod Parts
+mod SideBySide
 mod Protocols

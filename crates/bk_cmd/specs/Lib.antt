@@ -8,5 +8,6 @@ pub mod Answers
 pub mod Stops
 pub mod Writes
 pub mod Replays
+pub mod Threads
 pub mod Ends
 pub mod FaultTexts

@@ -43,9 +43,13 @@ pub record IsThere (files : Option (List ℕ → Option (List ℕ))) (name : Lis
   pub fits : length bytes ≤ FILE_LIMIT
   pub holds : Holds bytes
 
+-- the image of a replay and its trace are there and suit it
+abbrev pub HasInputs : Option (List ℕ → Option (List ℕ)) → List ℕ → List ℕ → Type 0
+HasInputs files image trace = IsThere files image IsAcceptedFile × IsThere files trace IsTraceFile
+
 -- each file of a command is there and suits it
 abbrev pub HasFiles : Option (List ℕ → Option (List ℕ)) → Command → Type 0
 HasFiles files (OfFile question name) = IsThere files name (Suits question)
 HasFiles files (Source text) = Unit {0}
 HasFiles files (Generate seed config operations) = Unit {0}
-HasFiles files (Replay output image trace) = IsThere files image IsAcceptedFile × IsThere files trace IsTraceFile
+HasFiles files (Replay output image trace) = HasInputs files image trace

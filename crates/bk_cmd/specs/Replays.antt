@@ -62,21 +62,21 @@ pub record IsDue (output : Output) (image : images.Parts) (trace : traces.Parts)
   pub is_report : IsReport trace.config image.instrs trace.lines events report
   pub whole : text ≡ log_due output image trace events ++ report
 
--- The run is complete, it was coherent after each of its events, and all that is due of it was taken.
-pub record Reported (policy : List WayView → ℕ → Type 0) (output : Output) (image : images.Parts) (trace : traces.Parts) (o : Outcome)
-    (before after : List ℕ) : Type 0 where
-  pub ended : RunEnds policy image trace o.events.items
-  pub coherent : StaysCoherent trace.config image.instrs o.events.items
+-- A run ended so, it was coherent after each of its events, and of all that is due of it this holds.
+pub record Replayed (Ends : List Event → Type 0) (output : Output) (image : images.Parts) (trace : traces.Parts) (events : List Event)
+    (Holds : List ℕ → Type 0) : Type 0 where
+  pub ended : Ends events
+  pub coherent : StaysCoherent trace.config image.instrs events
   pub text : List ℕ
-  pub is_due : IsDue output image trace o.events.items text
-  pub wrote : Wrote text o before after
+  pub is_due : IsDue output image trace events text
+  pub holds : Holds text
 
--- The same, and not all that is due of it was taken.
-pub record ReportedPart (policy : List WayView → ℕ → Type 0) (output : Output) (image : images.Parts) (trace : traces.Parts)
-    (o : Outcome)
-    (before after : List ℕ) : Type 0 where
-  pub ended : RunEnds policy image trace o.events.items
-  pub coherent : StaysCoherent trace.config image.instrs o.events.items
-  pub text : List ℕ
-  pub is_due : IsDue output image trace o.events.items text
-  pub wrote : WrotePart text o before after
+-- the greedy run is complete, and all that is due of it was taken
+abbrev pub Reported : (List WayView → ℕ → Type 0) → Output → images.Parts → traces.Parts → Outcome → List ℕ → List ℕ → Type 0
+Reported policy output image trace o before after =
+    Replayed (RunEnds policy image trace) output image trace o.events.items (λ text. Wrote text o before after)
+
+-- the same, and not all that is due of it was taken
+abbrev pub ReportedPart : (List WayView → ℕ → Type 0) → Output → images.Parts → traces.Parts → Outcome → List ℕ → List ℕ → Type 0
+ReportedPart policy output image trace o before after =
+    Replayed (RunEnds policy image trace) output image trace o.events.items (λ text. WrotePart text o before after)

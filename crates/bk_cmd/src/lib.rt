@@ -8,6 +8,7 @@ mod numbers;
 mod outcome;
 mod replay;
 mod run;
+mod threads;
 mod words;
 mod writing;
 
@@ -16,6 +17,8 @@ pub use outcome::{
     ABSENT, MALFORMED, MEMORY, OK, Outcome, READ_FAULT, REFUSED, TOO_LONG, USAGE, WRITE_FAULT,
 };
 pub use run::run_plain;
+pub use threads::run_threads;
+pub use words::is_threads;
 
 #[cfg(test)]
 mod damaged;
@@ -31,5 +34,7 @@ mod runs;
 mod tests;
 #[cfg(test)]
 mod texts;
+#[cfg(test)]
+mod threaded;
 #[cfg(test)]
 mod verdicts;

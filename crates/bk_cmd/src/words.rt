@@ -1,5 +1,6 @@
-ghost use Rattle.std.specs.Prelude.{◌≡◌, Some, None, MatchOption, IfSome};
+ghost use Rattle.std.specs.Prelude.{◌≡◌, ◌↔◌, Some, None, MatchOption, IfSome, IsSome, IsTrue};
 ghost use Rattle.bk_cmd.specs.Words.{output_of, generate_in, file_command, source_command, generate_of, replay_of, command_of};
+ghost use Rattle.bk_cmd.specs.Threads.{threads_of};
 ghost use Rattle.bk_cmd.specs.Told.{told, HasFewOperations};
 
 use crate::numbers::{below, config_in};
@@ -26,6 +27,8 @@ const REPLAY: &str = "replay";
 const SERIAL: &str = "serial";
 /// The second word of a replay that writes the log and the report.
 const LOG: &str = "log";
+/// The second word of a replay by agents side by side.
+const THREADS: &str = "threads";
 
 /// What is asked of one file.
 #[derive(Clone, Copy, Debug, PartialEq, Eq)]
@@ -203,4 +206,23 @@ pub(crate) fn command_of(words: &[String]) -> Option<Command<'_>>
         return replay_of(rest);
     }
     None
+}
+
+/// The names of the image and the trace of `replay threads IMAGE TRACE`, or none where the words are others.
+pub(crate) fn threads_of(words: &[String]) -> Option<(&str, &str)>
+    ensures { MatchOption result (threads_of words.now ≡ None) (λ names. threads_of words.now ≡ Some (names.0.now, names.1.now)) }
+{
+    match words {
+        [command, mode, image, trace] if command.as_str() == REPLAY && mode.as_str() == THREADS => {
+            Some((image.as_str(), trace.as_str()))
+        }
+        _ => None,
+    }
+}
+
+/// Whether the words are `replay threads IMAGE TRACE`, which [`crate::run_threads`] does.
+pub fn is_threads(words: &[String]) -> bool
+    ensures { IsTrue result ↔ IsSome (threads_of words.now) }
+{
+    threads_of(words).is_some()
 }

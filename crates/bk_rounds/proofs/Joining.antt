@@ -39,7 +39,7 @@ both-below a b (inl x) (inr none) = inr (λ h. none h.1)
 both-below a b (inr none) d = inr (λ h. none h.0)
 
 -- one is between agents of the configuration, or it isn't
-is-there : (k : Shape) (channel : Channel) → IsChannel k channel ⊎ (IsChannel k channel → ⊥)
+pub is-there : (k : Shape) (channel : Channel) → IsChannel k channel ⊎ (IsChannel k channel → ⊥)
 is-there k (channels.Request from) = below from k.caches
 is-there k (channels.Command to) = below to k.caches
 is-there k (channels.Fill to from) = both-below (to < k.caches) (from < k.caches) (below to k.caches) (below from k.caches)

@@ -19,7 +19,7 @@ use Rattle.bk_run.specs.Report.{IsReport, counts_of, report_text}
 use Rattle.bk_run.specs.Completion.{IsDone, IsFinished}
 use Rattle.bk_run.proofs.Prefixes.{complete-from}
 use Rattle.bk_run.proofs.Tight.{greedy-tight}
-use Rattle.bk_run.proofs.InOrder.{greedy-in_order, greedy-completed, prefix-whole}
+use Rattle.bk_run.proofs.InOrder.{greedy-in_order, tight-completed, prefix-whole}
 
 -- whether the trace is done, told of the system that made the events
 pub told-from : (k config : Shape) (program : List Form) (lines : List (ℕ × Op)) (events given : List Event) (history : List Done)
@@ -39,7 +39,8 @@ finished-told job events b greedy finished = (
   λ h. let known = finished.0 h in record {
     in_order = greedy-in_order job events greedy;
     whole = λ c below. prefix-whole (completed_by c (run job.config job.program events).history) (operations_of c job.operations)
-        (greedy-completed job events greedy c) (known.as_many c below);
+        (tight-completed job.config job.program job.operations events (greedy-tight job events greedy)
+        (greedy-in_order job events greedy) c below) (known.as_many c below);
     rested = known.rested;
   },
   λ complete. finished.1 (record { rested = complete.rested; as_many = λ c below. ap length (complete.whole c below) }),

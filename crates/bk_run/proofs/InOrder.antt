@@ -1,5 +1,6 @@
--- A greedy list has each cache issue its operations of the trace in order, and what it has completed are the first of them.
-use Rattle.std.proofs.Common.{◌≡◌, ℕ, List, [], ◌∷◌, ◌++◌, Bool, true, false, ◌&&◌, cond, eqb, Option, Some, None, refl, ap, sym, subst, ◌∙◌, ◌⊎◌, inl, inr, length, append_assoc, arith}
+-- A list of picked events, as a greedy one is, has each cache issue its operations of the trace in order, and what it has completed are the
+-- first of them.
+use Rattle.std.proofs.Common.{◌≡◌, ℕ, ◌<◌, List, [], ◌∷◌, ◌++◌, Bool, true, false, ◌&&◌, cond, eqb, Option, Some, None, refl, ap, sym, subst, ◌∙◌, ◌⊎◌, inl, inr, length, append_assoc, arith}
 use Rattle.std.specs.Prelude.{if◌then◌else◌, IsTrue, slice_get, is_some, nat_lt}
 use Rattle.std.proofs.lemmas.Bool.{cases_eq, eq-eqb, ne_eqb}
 use Rattle.std.proofs.lemmas.List.{append-nil}
@@ -13,10 +14,10 @@ use Rattle.bk_system.specs.declared.event.Event.{Event}
 use Rattle.bk_system.specs.declared.event.Event.TheVariants.{Issue, Command, Fill, Memory, Engine}
 use Rattle.bk_system.specs.State.{State, opening}
 use Rattle.bk_system.specs.Events.{Happening, first, cache_row, issue_taken, command_of, command_taken, without_command, fill_of, fill_taken, without_fill, access_row, can_run}
-use Rattle.bk_system.specs.Runs.{is_enabled, after, state_after_row, run_from, run, issued_by, completed_by, IsTightFrom, IsPrefix, IsInOrder}
+use Rattle.bk_system.specs.Runs.{is_enabled, after, state_after_row, run_from, run, issued_by, completed_by, IsTightFrom, IsTight, IsPrefix, IsInOrder}
 use Rattle.bk_run.specs.Jobs.{Job}
 use Rattle.bk_run.specs.Greedy.{next_operation, IsGreedyFrom, IsGreedy}
-use Rattle.bk_run.proofs.Tight.{IsPicked, Each, taken-picked, taken-some, greedy-tight}
+use Rattle.bk_run.proofs.Tight.{IsPicked, Each, taken-picked, taken-some}
 use Rattle.bk_run.proofs.Begun.{begun, operation_in, Moves, Begins, issue-begins, command-moves, fill-moves, with_taken-begun}
 
 -- what a cache issues in one event and those after it
@@ -180,28 +181,41 @@ picked-prefix c k program lines s (Fill to from) picked p = rw append-nil p
 picked-prefix c k program lines s Memory picked p = rw append-nil p
 picked-prefix c k program lines s (Engine choice) picked p = rw append-nil p
 
--- Where what a cache has begun is a prefix of its operations, it stays one along a greedy list from there.
-pub greedy_from-in_order : (job : Job) (c : ℕ) (s : State) (events : List Event) → IsGreedyFrom job s events
-    → IsPrefix (begun c s) (operations_of c job.operations)
-    → IsPrefix (begun c s ++ issued_by c events) (operations_of c job.operations)
-greedy_from-in_order job c s [] h p = rw append-nil p
-greedy_from-in_order job c s (event ∷ events) h p =
-    let k = job.config in
-    let program = job.program in
-    let lines = job.operations in
-    let picked = taken-picked job.policy k program s lines event h.0 in
-    let e = enabled-begun c k program s event picked.enabled in
-    let q = subst (λ (xs : List Op). IsPrefix xs (operations_of c lines)) (sym e) (picked-prefix c k program lines s event picked p) in
+-- Each event is picked where it stands: it is enabled there, and issues no operation but its cache's next one.
+abbrev pub ArePickedFrom : Shape → List Form → List (ℕ × Op) → State → List Event → Type 0
+ArePickedFrom k program lines s [] = Unit {0}
+ArePickedFrom k program lines s (event ∷ events) =
+    IsPicked k program s lines event × ArePickedFrom k program lines (after k program s event) events
+
+-- Where what a cache has begun is a prefix of its operations, it stays one along a list of picked events from there.
+pub picked_from-in_order : (c : ℕ) (k : Shape) (program : List Form) (lines : List (ℕ × Op)) (s : State) (events : List Event)
+    → ArePickedFrom k program lines s events → IsPrefix (begun c s) (operations_of c lines)
+    → IsPrefix (begun c s ++ issued_by c events) (operations_of c lines)
+picked_from-in_order c k program lines s [] h p = rw append-nil p
+picked_from-in_order c k program lines s (event ∷ events) h p =
+    let e = enabled-begun c k program s event h.0.enabled in
+    let q = subst (λ (xs : List Op). IsPrefix xs (operations_of c lines)) (sym e) (picked-prefix c k program lines s event h.0 p) in
     let same : begun c (after k program s event) ++ issued_by c events ≡ begun c s ++ issued_by c (event ∷ events) =
     ap (λ (xs : List Op). xs ++ issued_by c events) e
     ∙ append_assoc (begun c s) (issued_by c (event ∷ [])) (issued_by c events)
     ∙ ap (λ (xs : List Op). begun c s ++ xs) (sym (issued_by-cons c event events)) in
-    subst (λ (xs : List Op). IsPrefix xs (operations_of c lines)) same (greedy_from-in_order job c (after k program s event) events h.1 q)
+    subst (λ (xs : List Op). IsPrefix xs (operations_of c lines)) same
+    (picked_from-in_order c k program lines (after k program s event) events h.1 q)
+
+-- the events of a greedy list are picked
+greedy_from-picked : (job : Job) (s : State) (events : List Event) → IsGreedyFrom job s events
+    → ArePickedFrom job.config job.program job.operations s events
+greedy_from-picked job s [] h = tt
+greedy_from-picked job s (event ∷ events) h = (
+  taken-picked job.policy job.config job.program s job.operations event h.0,
+  greedy_from-picked job (after job.config job.program s event) events h.1,
+)
 
 -- a greedy list has each cache issue its operations of the trace in order
 pub greedy-in_order : (job : Job) (events : List Event) → IsGreedy job events → IsInOrder job.config job.operations events
-greedy-in_order job events h c below =
-    greedy_from-in_order job c (opening job.config) events h (operations_of c job.operations, refl)
+greedy-in_order job events h = λ c below.
+    picked_from-in_order c job.config job.program job.operations (opening job.config) events
+    (greedy_from-picked job (opening job.config) events h) (operations_of c job.operations, refl)
 
 -- after a list of events, each of which was enabled, a cache has begun what it had, and what the events issue
 tight_from-begun : (c : ℕ) (k : Shape) (program : List Form) (s : State) (events : List Event) → IsTightFrom k program s events
@@ -217,17 +231,15 @@ tight_from-begun c k program s (event ∷ events) h =
 prefix-part : (xs more ys : List Op) → IsPrefix (xs ++ more) ys → IsPrefix xs ys
 prefix-part xs more ys p = (more ++ p.0, sym (append_assoc xs more p.0) ∙ p.1)
 
--- what a cache has completed after a greedy list are the first of its operations in the trace
-pub greedy-completed : (job : Job) (events : List Event) → IsGreedy job events → (c : ℕ)
-    → IsPrefix (completed_by c (run job.config job.program events).history) (operations_of c job.operations)
-greedy-completed job events h c =
-    let s = run job.config job.program events in
-    let begun_all : begun c s ≡ begun c (opening job.config) ++ issued_by c events =
-    tight_from-begun c job.config job.program (opening job.config) events (greedy-tight job events h) in
-    let p : IsPrefix (begun c (opening job.config) ++ issued_by c events) (operations_of c job.operations) =
-    greedy_from-in_order job c (opening job.config) events h (operations_of c job.operations, refl) in
-    prefix-part (completed_by c s.history) (operation_in (s.caches c).busy) (operations_of c job.operations)
-    (subst (λ (xs : List Op). IsPrefix xs (operations_of c job.operations)) (sym begun_all) p)
+-- where each event was enabled and each cache issues its operations in order, what one has completed are the first of its operations
+pub tight-completed : (k : Shape) (program : List Form) (lines : List (ℕ × Op)) (events : List Event) → IsTight k program events
+    → IsInOrder k lines events → (c : ℕ) → c < k.caches
+    → IsPrefix (completed_by c (run k program events).history) (operations_of c lines)
+tight-completed k program lines events tight in_order c below =
+    let s = run k program events in
+    prefix-part (completed_by c s.history) (operation_in (s.caches c).busy) (operations_of c lines)
+    (subst (λ (xs : List Op). IsPrefix xs (operations_of c lines)) (sym (tight_from-begun c k program (opening k) events tight))
+    (in_order c below))
 
 -- a prefix that is as long as the whole is the whole
 pub prefix-whole : (xs ys : List Op) → IsPrefix xs ys → length xs ≡ length ys → xs ≡ ys
