@@ -17,6 +17,9 @@ use std::rt::Files;
 use std::sync::Wait;
 use std::thread::Threads;
 
+#[cfg(test)]
+mod threaded;
+
 /// The words of the command line without the program's name.
 fn words_of(rt: &HostRuntime) -> io::Result<Vec<String>> {
     let mut words = Vec::new(rt.alloc());

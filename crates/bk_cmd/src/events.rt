@@ -1,5 +1,6 @@
 //! Single events, what they send, and their log.
 
+use super::runs::engine;
 use bk_base::{Addr, Config, Op};
 use bk_engine::Choice;
 use bk_image::read_image;
@@ -128,13 +129,6 @@ const WAIT: [u8; 24] = [
     0x42, 0x4b, 0x55, 0x43, 0x01, 0x00, 0x00, 0x00, 0x01, 0x00, 0x00, 0x00, 0x00, 0x00, 0x00, 0x00,
     0x00, 0x00, 0x00, 0x00, 0x00, 0x00, 0x04, 0x50,
 ];
-
-/// The choice of a class and a source.
-fn engine(class: u8, source: u8) -> Event {
-    Event::Engine {
-        choice: Choice { class, source },
-    }
-}
 
 #[test]
 fn enabled_events_and_their_messages(rt: HostRuntime) -> Result<(), Fail> {

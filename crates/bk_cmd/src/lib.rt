@@ -35,6 +35,4 @@ mod tests;
 #[cfg(test)]
 mod texts;
 #[cfg(test)]
-mod threaded;
-#[cfg(test)]
 mod verdicts;

@@ -156,7 +156,8 @@ fn an_image_is_handed_on_or_back(rt: HostRuntime) -> Result<(), Fail> {
     Ok(())
 }
 
-fn engine(class: u8, source: u8) -> Event {
+/// The engine's event with the choice of a class and a source.
+pub(crate) fn engine(class: u8, source: u8) -> Event {
     Event::Engine {
         choice: Choice { class, source },
     }

@@ -208,6 +208,7 @@ fn a_drawn_trace(rt: HostRuntime) -> Result<(), Fail> {
 fn words_that_are_no_command(rt: HostRuntime) -> Result<(), Fail> {
     let alloc = rt.alloc();
     let lines = [
+        &[][..],
         &["verify"][..],
         &["verify", "a.bk", "b.trace"][..],
         &["replay", "a.bk", "b.trace"][..],
@@ -230,23 +231,8 @@ fn words_that_are_no_command(rt: HostRuntime) -> Result<(), Fail> {
         let mut sink = sink(alloc);
         let outcome = asked(alloc, &words_of(alloc, line)?, &mut shelf, &mut sink);
         assert_eq!(rt; numbers(&outcome), [USAGE as u64, 0, 0, 0, 0, 0]);
+        assert!(rt; fault_line(&outcome).as_str() == "bedrock: usage");
     }
-    Ok(())
-}
-
-#[test]
-fn no_words(rt: HostRuntime) -> Result<(), Fail> {
-    let alloc = rt.alloc();
-    let mut shelf = shelf(
-        alloc,
-        &image_named(alloc, "mesi")?,
-        TWO_OPERATIONS,
-        Vec::new(alloc),
-    )?;
-    let mut sink = sink(alloc);
-    let outcome = asked(alloc, &[], &mut shelf, &mut sink);
-    assert_eq!(rt; numbers(&outcome), [USAGE as u64, 0, 0, 0, 0, 0]);
-    assert!(rt; fault_line(&outcome).as_str() == "bedrock: usage");
     Ok(())
 }
 

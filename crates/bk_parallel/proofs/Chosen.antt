@@ -1,8 +1,9 @@
 -- Channels that were chosen among others.
-use Rattle.std.proofs.Common.{◌≡◌, ◌≢◌, ℕ, zero, suc, Bool, true, false, cond, List, [], ◌∷◌, refl, sym, ap, ◌∙◌, arith}
+use Rattle.std.proofs.Common.{◌≡◌, ◌≢◌, ℕ, suc, Bool, true, false, cond, List, [], ◌∷◌, refl, sym, ap, ◌∙◌, arith}
 use Rattle.std.specs.Prelude.{filter, ◌==◌, if◌then◌else◌}
 use Rattle.std.specs.List.{All, AllPairs}
 use Rattle.std.proofs.lemmas.Bool.{eqb-true, eq-eqb}
+use Rattle.std.proofs.lemmas.List.Kept.{AllPairs-cons}
 use Rattle.std.proofs.lemmas.List.Elements.{All-filter, filter_passes}
 use Rattle.bk_agents.proofs.SameChannel.{same-channel}
 use Rattle.bk_base.specs.Places.{Shape}
@@ -14,27 +15,22 @@ use Rattle.bk_parallel.specs.Joined.{IsBetween, AreBetween, ending_at, beginning
 
 -- PAIRS
 
-module _ {X : Type 0} (R : X → X → Type 0) where
-  pairs-nil : AllPairs R []
+module _ {X : Type 0} (P : X → X → Type 0) where
+  pairs-nil : AllPairs P []
   pairs-nil i j d before within = absurd (omega arith)
 
-  pub pairs-cons : (x : X) (xs : List X) → All (R x) xs → AllPairs R xs → AllPairs R (x ∷ xs)
-  pairs-cons x xs all pairs i zero d before within = absurd (omega arith)
-  pairs-cons x xs all pairs zero (suc j) d before within = all j d (omega arith)
-  pairs-cons x xs all pairs (suc i) (suc j) d before within = pairs i j d (omega arith) (omega arith)
-
-  first-of : (x : X) (xs : List X) → AllPairs R (x ∷ xs) → All (R x) xs
+  first-of : (x : X) (xs : List X) → AllPairs P (x ∷ xs) → All (P x) xs
   first-of x xs pairs = λ i d within. pairs 0 (suc i) d (omega arith) (omega arith)
 
   module _ (p : X → Bool) where
-    kept-pairs : (b : Bool) (x : X) (xs : List X) → All (R x) xs → AllPairs R xs → AllPairs R (cond b (x ∷ xs) xs)
-    kept-pairs true x xs all pairs = pairs-cons x xs all pairs
+    kept-pairs : (b : Bool) (x : X) (xs : List X) → All (P x) xs → AllPairs P xs → AllPairs P (cond b (x ∷ xs) xs)
+    kept-pairs true x xs all pairs = AllPairs-cons P x xs all pairs
     kept-pairs false x xs all pairs = pairs
 
-    pub pairs-filter : (xs : List X) → AllPairs R xs → AllPairs R (filter p xs)
+    pub pairs-filter : (xs : List X) → AllPairs P xs → AllPairs P (filter p xs)
     pairs-filter [] pairs = pairs-nil
     pairs-filter (x ∷ xs) pairs =
-        kept-pairs (p x) x (filter p xs) (All-filter p (R x) xs (first-of x xs pairs)) (pairs-filter xs (pairs-tail R x xs pairs))
+        kept-pairs (p x) x (filter p xs) (All-filter p (P x) xs (first-of x xs pairs)) (pairs-filter xs (pairs-tail P x xs pairs))
 
 -- CHANNELS
 

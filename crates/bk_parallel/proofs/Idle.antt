@@ -102,7 +102,8 @@ module _ (k : Shape) (program : List Form) (own s : State) where
     same-ready : (c : ℕ) → c < k.caches → Agree k own s c
         → ready_operation k program own operations c ≡ ready_operation k program s operations c
     same-ready c l agree =
-        let parts : CachePart (own.caches c) (length (completed_by c own.history)) ≡ CachePart (s.caches c) (length (completed_by c s.history)) =
+        let parts : CachePart (own.caches c) (length (completed_by c own.history))
+        ≡ CachePart (s.caches c) (length (completed_by c s.history)) =
         sym (cache-part k own c l) ∙ agree.part ∙ cache-part k s c l in
         let many : length (completed_by c own.history) ≡ length (completed_by c s.history) = cc (parts) in
         then-same {Y = ℕ × Op} (λ op. if is_enabled k program own (Issue c 0 op) then Some (c, op) else None)

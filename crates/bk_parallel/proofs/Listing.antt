@@ -71,13 +71,13 @@ module _ {X : Type 0} where
   one-of-one P x p zero d within = p
   one-of-one P x p (suc i) d within = absurd (omega arith)
 
-  pairs-append : (R : X → X → Type 0) (xs : List X) (y : X) → AllPairs R xs → All (λ x. R x y) xs → AllPairs R (xs ++ y ∷ [])
-  pairs-append R [] y pairs all = λ i j d before within. absurd (omega arith)
-  pairs-append R (x ∷ xs) y pairs all =
-      AllPairs-cons R x (xs ++ y ∷ [])
-      (All-append (R x) xs (y ∷ []) (λ i d within. pairs 0 (suc i) d (omega arith) (omega arith))
-      (one-of-one (R x) y (All-head (λ z. R z y) x xs all)))
-      (pairs-append R xs y (λ i j d before within. pairs (suc i) (suc j) d (omega arith) (omega arith)) (All-tail (λ z. R z y) x xs all))
+  pairs-append : (P : X → X → Type 0) (xs : List X) (y : X) → AllPairs P xs → All (λ x. P x y) xs → AllPairs P (xs ++ y ∷ [])
+  pairs-append P [] y pairs all = λ i j d before within. absurd (omega arith)
+  pairs-append P (x ∷ xs) y pairs all =
+      AllPairs-cons P x (xs ++ y ∷ [])
+      (All-append (P x) xs (y ∷ []) (λ i d within. pairs 0 (suc i) d (omega arith) (omega arith))
+      (one-of-one (P x) y (All-head (λ z. P z y) x xs all)))
+      (pairs-append P xs y (λ i j d before within. pairs (suc i) (suc j) d (omega arith) (omega arith)) (All-tail (λ z. P z y) x xs all))
 
 pub adds-one : (k : Shape) (channel : Channel) (old : List Channel) → AreSome k old → IsBetween k channel → is_in channel old ≡ false
     → Adds k channel old (old ++ channel ∷ [])

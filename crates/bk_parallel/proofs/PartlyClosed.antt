@@ -60,7 +60,8 @@ not-in-more c channel (x ∷ xs) out differ =
     if-false (is_same x c) true (is_in c (xs ++ channel ∷ [])) (not-first c x xs out)
     ∙ not-in-more c channel xs (not-later c x xs out) differ
 
-not-in-kept : (b : Bool) (c x : Channel) (xs : List Channel) → is_same x c ≡ false → is_in c xs ≡ false → is_in c (cond b (x ∷ xs) xs) ≡ false
+not-in-kept : (b : Bool) (c x : Channel) (xs : List Channel) → is_same x c ≡ false → is_in c xs ≡ false
+    → is_in c (cond b (x ∷ xs) xs) ≡ false
 not-in-kept true c x xs first out = if-false (is_same x c) true (is_in c xs) first ∙ out
 not-in-kept false c x xs first out = out
 

@@ -49,7 +49,8 @@ use Rattle.bk_parallel.proofs.Stands.{none-at}
 is-between : (k : Shape) (channel : Channel) → IsBetween k channel ⊎ (IsBetween k channel → ⊥)
 is-between k channel = whether (is-there k channel) (cases_eq (begins_at k channel) (ends_at k channel))
   where
-    whether : IsChannel k channel ⊎ (IsChannel k channel → ⊥) → (begins_at k channel ≡ ends_at k channel) ⊎ (begins_at k channel ≢ ends_at k channel)
+    whether : IsChannel k channel ⊎ (IsChannel k channel → ⊥)
+        → (begins_at k channel ≡ ends_at k channel) ⊎ (begins_at k channel ≢ ends_at k channel)
         → IsBetween k channel ⊎ (IsBetween k channel → ⊥)
     whether (inl there) (inr apart) = inl (record { there = there; apart = apart })
     whether (inl there) (inl same) = inr (λ h. h.apart same)
@@ -88,7 +89,8 @@ if-engine choice k channel e = whether (eqb choice.class CLASS_RESPONSE) (eqb ch
 held-engine : (k : Shape) (s : State) (n : ℕ) (head : Head) → held_head (part_of k s n) ≡ Some head → n ≡ engine_number k
 held-engine k s n head e = elim (cases_eq n (engine_number k)) [
   | inl same ↦ same
-  | inr differ ↦ absurd (none-held (ltb n k.caches) (eqb n (engine_number k)) (eqb n (memory_number k)) (ne_eqb n (engine_number k) differ) e)
+  | inr differ ↦ absurd (none-held (ltb n k.caches) (eqb n (engine_number k)) (eqb n (memory_number k))
+      (ne_eqb n (engine_number k) differ) e)
 ]
   where
     none-held : (a b c : Bool) → b ≡ false → held_head (cond a (CachePart (s.caches n) (length (completed_by n s.history)))
@@ -232,7 +234,8 @@ module _ (task : Task) (s : State) (old opened worked closed emptied : List Agen
           ∙ subst (λ (i : ℕ). channel_of (state_at k closed i) channel ≡ []) outward.here
           (round.shut.given channel (record { there = there; apart = λ same. outward.elsewhere (sym same ∙ outward.here) }))
       outbox n channel l outward (inr away) =
-          content n channel ∙ round.shut.others channel (λ leads. away leads.there) n ∙ (unsent n channel l outward (none ((round.works n l).through channel))).1
+          content n channel ∙ round.shut.others channel (λ leads. away leads.there) n
+          ∙ (unsent n channel l outward (none ((round.works n l).through channel))).1
         where
           none : IsChannel k channel ⊎ (sent_by (round.works n l).steps channel ≡ []) → sent_by (round.works n l).steps channel ≡ []
           none (inl there) = absurd (away there)

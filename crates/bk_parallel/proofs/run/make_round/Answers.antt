@@ -112,14 +112,22 @@ returns g c = λ s standing.
     c.deref_mut-3.ensures.len (ap length shut_came ∙ closes.team.count) took.team in
     let empties = empties-as k config shut c.deref_mut-3.result.now emptied emptied_raw c.in_ok-journals.journals.items same
     (c.deref_mut-3.ensures.value ∙ shut_came) (sym emptied_came)
-    (record { told = took.entries; empty = took.empty; team = took.team; states = took.states; inlets = took.inlets; outlets = took.outlets }) in
+    (record {
+      told = took.entries;
+      empty = took.empty;
+      team = took.team;
+      states = took.states;
+      inlets = took.inlets;
+      outlets = took.outlets;
+    }) in
     let merge = subst (λ (all : List Journal). IsMerge all c.in_ok-events.events.items) c.deref.ensures.value c.in_ok-events.ensures in
     let ends : c.if-idle.last ≡ true → (c.in_ok-worked.idle ≡ true) × (c.in_ok-events.events.items ≡ []) =
     elim c.if-idle.branch [
       | then-idle w ↦ λ is. (
         w.if-idle.true,
         nil_from_length c.in_ok-events.events.items
-            (sym c.in_ok-events.events.ok.0 ∙ eqb-true (vec_len c.in_ok-events.events) 0 (sym w.is_empty-last.ensures ∙ sym w.last-is ∙ is)),
+            (sym c.in_ok-events.events.ok.0 ∙ eqb-true (vec_len c.in_ok-events.events) 0
+            (sym w.is_empty-last.ensures ∙ sym w.last-is ∙ is)),
       )
       | else-idle w ↦ λ is. let off = sym w.last-is ∙ is in absurd (cc (off))
     ] in

@@ -14,7 +14,8 @@ loop-number-preserved c =
 all : (c : goal.After-loop-number) → AreNew c.args.config (c.args.config.caches + 2) c.loop-number.agents.items
 all c =
     let caches : c.config.inside.caches ≡ c.args.config.caches = ap (λ (k : Shape). k.caches) c.config.view_is in
-    let last : c.loop-number.number ≡ c.args.config.caches + 2 = omega (arith, caches, c.loop-number-test.false, c.loop-number.auto.number-end) in
+    let last : c.loop-number.number ≡ c.args.config.caches + 2 =
+    omega (arith, caches, c.loop-number-test.false, c.loop-number.auto.number-end) in
     subst (λ (n : ℕ). AreNew c.args.config n c.loop-number.agents.items) last c.loop-number.invariant
 
 pub returns-clause-team : goal.returns-clause-team

@@ -1,12 +1,15 @@
-//! The replay by agents side by side.
+//! The replay by agents side by side: that each has a thread of its own, and that each report is that of its own list of events.
 
-use super::tests::{TWO_OPERATIONS, asked, numbers, shelf as shelf_of, sink as sink_of, words_of};
-use super::*;
-use crate::programs::image_named;
+use bk_asm::assemble;
 use bk_base::Config;
-use bk_image::read_image;
+use bk_cmd::{
+    ABSENT, OK, Outcome, REFUSED, USAGE, WRITE_FAULT, fault_line, is_threads, run_plain,
+    run_threads,
+};
+use bk_image::{read_image, write_image};
 use bk_lce::{Victim, WayView, oldest};
 use bk_outer::{Free, Gate, MemShelf, MemSink};
+use bk_proto::source;
 use bk_run::report;
 use bk_trace::{generate, read_trace, write_trace};
 use std::alloc::Global;
@@ -67,6 +70,40 @@ impl Gate for Meeting {
     }
 }
 
+/// A store past the cache, and a load of the same word by another cache.
+const TWO_OPERATIONS: &str = "config 2 4 2\n0 US 0x40 7\n1 UL 0x40\n";
+
+/// The bytes of the image of a protocol.
+fn image_named(alloc: Global, name: &str) -> Result<Vec<u8>, Fail> {
+    let text = source(name).ok_or("a protocol")?;
+    Ok(write_image(alloc, &assemble(alloc, text)?)?)
+}
+
+/// The words of a command line.
+fn words_of(alloc: Global, line: &[&str]) -> Result<Vec<String>, Fail> {
+    let mut words = Vec::new(alloc);
+    for word in line {
+        words.push(String::from_str(alloc, word)?)?;
+    }
+    Ok(words)
+}
+
+/// A shelf with an image `a.bk` and a trace `b.trace`.
+fn shelf_of(alloc: Global, image: &[u8], trace: &str) -> Result<MemShelf, Fail> {
+    let mut files = Vec::new(alloc);
+    files.push((String::from_str(alloc, "a.bk")?, image.to_vec(alloc)?))?;
+    files.push((
+        String::from_str(alloc, "b.trace")?,
+        trace.as_bytes().to_vec(alloc)?,
+    ))?;
+    Ok(MemShelf::make(alloc, files, Vec::new(alloc)))
+}
+
+/// A sink that never fails.
+fn sink_of(alloc: Global) -> MemSink {
+    MemSink::make(alloc, 4096, Vec::new(alloc))
+}
+
 /// The words `replay threads a.bk b.trace`.
 fn words(alloc: Global) -> Result<Vec<String>, Fail> {
     words_of(alloc, &["replay", "threads", "a.bk", "b.trace"])
@@ -100,7 +137,7 @@ fn trace_of_all_caches(alloc: Global) -> Result<String, Fail> {
 fn each_agent_has_a_thread(rt: HostRuntime) -> Result<(), Fail> {
     let alloc = rt.alloc();
     let trace = trace_of_all_caches(alloc)?;
-    let mut shelf = shelf_of(alloc, &image_named(alloc, "mesi")?, &trace, Vec::new(alloc))?;
+    let mut shelf = shelf_of(alloc, &image_named(alloc, "mesi")?, &trace)?;
     let mut sink = sink_of(alloc);
     let meeting = Meeting::new();
     let outcome = threaded(&rt, alloc, &words(alloc)?, &mut shelf, &mut sink, &meeting);
@@ -138,7 +175,7 @@ fn threaded_reports_are_those_of_their_own_events(rt: HostRuntime) -> Result<(),
             let trace = generate(alloc, seed, Config::make(caches, sets, ways)?, 40)?;
             let text = write_trace(alloc, &trace)?;
             let text = std::str::from_utf8(&text)?;
-            let mut shelf = shelf_of(alloc, &bytes, text, Vec::new(alloc))?;
+            let mut shelf = shelf_of(alloc, &bytes, text)?;
             let mut sink = sink_of(alloc);
             let words = words(alloc)?;
             let outcome = threaded(&rt, alloc, &words, &mut shelf, &mut sink, &Free);
@@ -154,16 +191,12 @@ fn threaded_reports_are_those_of_their_own_events(rt: HostRuntime) -> Result<(),
 #[test]
 fn words_of_threads(rt: HostRuntime) -> Result<(), Fail> {
     let alloc = rt.alloc();
-    let mut shelf = shelf_of(
-        alloc,
-        &image_named(alloc, "mesi")?,
-        TWO_OPERATIONS,
-        Vec::new(alloc),
-    )?;
+    let mut shelf = shelf_of(alloc, &image_named(alloc, "mesi")?, TWO_OPERATIONS)?;
     let mut sink = sink_of(alloc);
     assert!(rt; is_threads(&words(alloc)?));
-    let outcome = asked(alloc, &words(alloc)?, &mut shelf, &mut sink);
-    assert_eq!(rt; numbers(&outcome), [USAGE as u64, 0, 0, 0, 0, 0]);
+    let victim = Victim::store(|views: &[WayView]| oldest(views));
+    let outcome = run_plain(alloc, &words(alloc)?, &mut shelf, &mut sink, victim);
+    assert_eq!(rt; outcome.status, USAGE);
     let lines = [
         &[][..],
         &["replay", "serial", "a.bk", "b.trace"][..],
@@ -175,7 +208,7 @@ fn words_of_threads(rt: HostRuntime) -> Result<(), Fail> {
         let others = words_of(alloc, line)?;
         assert!(rt; !is_threads(&others));
         let outcome = threaded(&rt, alloc, &others, &mut shelf, &mut sink, &Free);
-        assert_eq!(rt; numbers(&outcome), [USAGE as u64, 0, 0, 0, 0, 0]);
+        assert_eq!(rt; outcome.status, USAGE);
     }
     assert_eq!(rt; sink.bytes().len(), 0);
     Ok(())
@@ -185,18 +218,18 @@ fn words_of_threads(rt: HostRuntime) -> Result<(), Fail> {
 fn no_agent_runs(rt: HostRuntime) -> Result<(), Fail> {
     let alloc = rt.alloc();
     let mut sink = sink_of(alloc);
-    let mut refused = shelf_of(
-        alloc,
-        &image_named(alloc, "uc")?,
-        TWO_OPERATIONS,
-        Vec::new(alloc),
-    )?;
+    let nop = write_image(alloc, &assemble(alloc, "  nop\n".as_bytes())?)?;
+    let mut refused = shelf_of(alloc, &nop, TWO_OPERATIONS)?;
     let outcome = threaded(&rt, alloc, &words(alloc)?, &mut refused, &mut sink, &Free);
-    assert_eq!(rt; numbers(&outcome), [REFUSED as u64, 0, 0, 0, 0, 0]);
-    assert!(rt; fault_line(&outcome).as_str() == "bedrock: refused at 0: O1");
+    assert_eq!(rt; outcome.status, REFUSED);
+    assert!(rt;
+        fault_line(&outcome)
+            .as_str()
+            .starts_with("bedrock: refused at 0: O")
+    );
     let mut empty = MemShelf::make(alloc, Vec::new(alloc), Vec::new(alloc));
     let outcome = threaded(&rt, alloc, &words(alloc)?, &mut empty, &mut sink, &Free);
-    assert_eq!(rt; numbers(&outcome), [ABSENT as u64, 1, 0, 0, 0, 0]);
+    assert_eq!(rt; (outcome.status, outcome.file), (ABSENT, 1));
     assert_eq!(rt; sink.bytes().len(), 0);
     Ok(())
 }
@@ -205,10 +238,10 @@ fn no_agent_runs(rt: HostRuntime) -> Result<(), Fail> {
 fn a_report_that_is_not_taken_whole(rt: HostRuntime) -> Result<(), Fail> {
     let alloc = rt.alloc();
     let image = image_named(alloc, "mesi")?;
-    let mut shelf = shelf_of(alloc, &image, TWO_OPERATIONS, Vec::new(alloc))?;
+    let mut shelf = shelf_of(alloc, &image, TWO_OPERATIONS)?;
     let mut sink = MemSink::make(alloc, 50, vec![in alloc; 2]?);
     let outcome = threaded(&rt, alloc, &words(alloc)?, &mut shelf, &mut sink, &Free);
-    assert_eq!(rt; numbers(&outcome), [WRITE_FAULT as u64, 0, 0, 0, 0, 50]);
+    assert_eq!(rt; (outcome.status, outcome.written), (WRITE_FAULT, 50));
     let trace = read_trace(alloc, TWO_OPERATIONS.as_bytes())?;
     let due = report(alloc, &read_image(alloc, &image)?, &trace, &outcome.events)?;
     assert_eq!(rt; sink.bytes().len(), 50);
