@@ -169,4 +169,5 @@ pub threads-by-memory : (files : Files) (words : List (String Global)) (image tr
     → IsStop files (Replay Report image trace) failed missed stop → facts_of o ≡ facts_of_stop stop → o.status ≡ MEMORY
 threads-by-memory files words image trace failed missed stop o is has whole stops facts =
     by-memory files (Replay Report image trace) failed missed stop o
-    (subst (λ (found : Option (List ℕ × List ℕ)). IsSomeAnd found (λ names. HasInputs files.at names.0 names.1)) is has) whole stops facts
+    (subst (λ (found : Option (List ℕ × List ℕ)). IsSomeAnd found
+        (λ names. HasInputs files.at names.0 names.1)) is has) whole stops facts

@@ -254,7 +254,8 @@ prefix-length xs ys p =
 -- THE END
 
 -- a list of a sound image over a trace, each event enabled where it stands and each cache's operations issued in order
-module _ (k : Shape) (program : List Form) (lines : List (ℕ × Op)) (events : List Event) (sound : IsSound program) (profile : InProfile k)
+module _ (k : Shape) (program : List Form) (lines : List (ℕ × Op)) (events : List Event) (sound : IsSound program)
+    (profile : InProfile k)
     (each : All (IsLine k.caches) lines) (tight : IsTight k program events) (in_order : IsInOrder k lines events)
     (end : IsEnd k program (run k program events) lines)
   where

@@ -51,7 +51,8 @@ module _ (policy : List WayView → ℕ → Type 0) (program : List Form) (image
     threads-coherent (Err e) h = tt
 
 -- Their report is what is due, and of that something holds. The image and the events that it was asked of are those of the run.
-pub threads-reported : (policy : List WayView → ℕ → Type 0) (given image : images.Parts) (trace : traces.Parts) (Holds : List ℕ → Type 0)
+pub threads-reported : (policy : List WayView → ℕ → Type 0) (given image : images.Parts) (trace : traces.Parts)
+    (Holds : List ℕ → Type 0)
     (told events asked : List Event) (report : List ℕ) → told ≡ events → asked ≡ events → given ≡ image
     → ThreadsEnd policy image trace events → StaysCoherent trace.config image.instrs events
     → IsReport trace.config given.instrs trace.lines asked report → Holds report

@@ -72,11 +72,13 @@ pub record Replayed (Ends : List Event → Type 0) (output : Output) (image : im
   pub holds : Holds text
 
 -- the greedy run is complete, and all that is due of it was taken
-abbrev pub Reported : (List WayView → ℕ → Type 0) → Output → images.Parts → traces.Parts → Outcome → List ℕ → List ℕ → Type 0
+abbrev pub Reported : (List WayView → ℕ → Type 0) → Output → images.Parts → traces.Parts → Outcome → List ℕ → List ℕ
+    → Type 0
 Reported policy output image trace o before after =
     Replayed (RunEnds policy image trace) output image trace o.events.items (λ text. Wrote text o before after)
 
 -- the same, and not all that is due of it was taken
-abbrev pub ReportedPart : (List WayView → ℕ → Type 0) → Output → images.Parts → traces.Parts → Outcome → List ℕ → List ℕ → Type 0
+abbrev pub ReportedPart : (List WayView → ℕ → Type 0) → Output → images.Parts → traces.Parts → Outcome → List ℕ
+    → List ℕ → Type 0
 ReportedPart policy output image trace o before after =
     Replayed (RunEnds policy image trace) output image trace o.events.items (λ text. WrotePart text o before after)

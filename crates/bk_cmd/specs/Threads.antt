@@ -40,11 +40,13 @@ pub record ThreadsEnd (policy : List WayView → ℕ → Type 0) (image : images
   pub within : length events ≤ budget_for image trace
 
 -- the run ended so, and its report, all that is due of it, was taken
-abbrev pub ThreadsReported : (List WayView → ℕ → Type 0) → images.Parts → traces.Parts → Outcome → List ℕ → List ℕ → Type 0
+abbrev pub ThreadsReported : (List WayView → ℕ → Type 0) → images.Parts → traces.Parts → Outcome → List ℕ → List ℕ
+    → Type 0
 ThreadsReported policy image trace o before after =
     Replayed (ThreadsEnd policy image trace) Report image trace o.events.items (λ text. Wrote text o before after)
 
 -- the same, and not all of the report was taken
-abbrev pub ThreadsReportedPart : (List WayView → ℕ → Type 0) → images.Parts → traces.Parts → Outcome → List ℕ → List ℕ → Type 0
+abbrev pub ThreadsReportedPart : (List WayView → ℕ → Type 0) → images.Parts → traces.Parts → Outcome → List ℕ → List ℕ
+    → Type 0
 ThreadsReportedPart policy image trace o before after =
     Replayed (ThreadsEnd policy image trace) Report image trace o.events.items (λ text. WrotePart text o before after)

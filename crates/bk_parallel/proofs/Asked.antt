@@ -15,6 +15,7 @@ use Rattle.bk_system.specs.Runs.{after, is_enabled, IsTight, IsTightFrom, IsInOr
 use Rattle.bk_system.specs.State.{State, opening}
 use Rattle.bk_run.specs.Greedy.{IsAsked}
 use Rattle.bk_run.proofs.InOrder.{ArePickedFrom, picked_from-in_order}
+use Rattle.bk_run.proofs.Lawful.{issue-cache}
 use Rattle.bk_run.proofs.Tight.{IsNext, taken-some, is_some-if}
 use Rattle.bk_agents.specs.Parts.{Part, part_of, agent_of}
 use Rattle.bk_agents.proofs.Numbers.{cache-part}
@@ -23,19 +24,12 @@ use Rattle.bk_rounds.specs.Tasks.{IsDue}
 use Rattle.bk_parallel.specs.Runs.{AreAsked}
 
 module _ (policy : List WayView → ℕ → Type 0) (k : Shape) (program : List Form) (operations : List (ℕ × Op)) where
-  -- an Issue that is enabled is given to a cache that there is
-  issue-cache : (s : State) (c way : ℕ) (op : Op) → IsTrue (is_enabled k program s (Issue c way op)) → c < k.caches
-  issue-cache s c way op enabled =
-      let taken : IsTrue (is_some (issue_taken k s c op way)) =
-      subst (λ (b : Bool). IsTrue b) (taken-some s c (issue_taken k s c op way)) enabled in
-      let parts = is_some-if (nat_lt c k.caches && nat_lt way k.ways) (issue k (s.caches c) c op way) taken in
-      ltb-true c k.caches (and_parts (nat_lt c k.caches) (nat_lt way k.ways) parts.0).0
-
   -- one event that is due
   due-both : (s : State) (event : Event) → IsTrue (is_enabled k program s event)
       → IsDue policy k operations (part_of k s (agent_of k event)) event → IsNext s operations event × IsAsked policy k s event
   due-both s (Issue c way op) enabled due =
-      subst (λ (part : Part). IsDue policy k operations part (Issue c way op)) (cache-part k s c (issue-cache s c way op enabled)) due
+      subst (λ (part : Part). IsDue policy k operations part (Issue c way op))
+          (cache-part k s c (issue-cache k program s c way op enabled)) due
   due-both s (Command c) enabled due = (tt, tt)
   due-both s (Fill to from) enabled due = (tt, tt)
   due-both s Memory enabled due = (tt, tt)

@@ -10,27 +10,16 @@ use Rattle.bk_threads.specs.declared.merging.Stamped.{Stamped}
 use Rattle.bk_threads.specs.Journals.{entries_of, OfDifferentAgents}
 use Rattle.bk_parallel.specs.Teams.{IsMember, IsTeam, state_in, inlets_in, outlets_in, entries_in, state_at, inlets_at, outlets_at, entries_at}
 use Rattle.bk_parallel.proofs.Making.{at-more}
+use Rattle.bk_parallel.proofs.Places.{get-set-same, get-set-other}
 
 -- AN ELEMENT OF A LIST IS REPLACED
-
-pub set-here : {X : Type 0} (xs : List X) (i : ℕ) (x : X) → i < length xs → slice_get (set xs i x) i ≡ Some x
-set-here [] i x l = absurd (omega (arith, l))
-set-here (y ∷ xs) zero x l = refl
-set-here (y ∷ xs) (suc i) x l = set-here xs i x (omega (arith, l))
-
-pub set-there : {X : Type 0} (xs : List X) (i n : ℕ) (x : X) → n ≢ i → slice_get (set xs i x) n ≡ slice_get xs n
-set-there [] i n x differ = refl
-set-there (y ∷ xs) zero zero x differ = absurd (differ refl)
-set-there (y ∷ xs) zero (suc n) x differ = refl
-set-there (y ∷ xs) (suc i) zero x differ = refl
-set-there (y ∷ xs) (suc i) (suc n) x differ = set-there xs i n x (λ e. differ (ap suc e))
 
 -- what is so of the new element, and was so of the others, is so at each place
 pub set-each : {X : Type 0} (P : ℕ → Option X → Type 0) (xs : List X) (i : ℕ) (x : X) → i < length xs → P i (Some x)
     → ((n : ℕ) → n ≢ i → P n (slice_get xs n)) → (n : ℕ) → P n (slice_get (set xs i x) n)
 set-each P xs i x l here there n = elim (cases_eq n i) [
-  | inl same ↦ subst (P n) (sym (ap (slice_get (set xs i x)) same ∙ set-here xs i x l)) (subst (λ j. P j (Some x)) (sym same) here)
-  | inr differ ↦ subst (P n) (sym (set-there xs i n x differ)) (there n differ)
+  | inl same ↦ subst (P n) (sym (ap (slice_get (set xs i x)) same ∙ get-set-same xs i x l)) (subst (λ j. P j (Some x)) (sym same) here)
+  | inr differ ↦ subst (P n) (sym (get-set-other xs i n x differ)) (there n differ)
 ]
 
 -- JOURNALS BY THE NUMBERS OF THEIR AGENTS
@@ -93,7 +82,8 @@ pub record IsBut (agent other : Agent) : Type 0 where
 
 module _ (k : Shape) (old now : List Agent) (journals later : List Journal) (place : ℕ) (agent other : Agent) (journal : Journal)
     (so_far : Emptied k old now journals place) (is : slice_get now place ≡ Some agent) (but : IsBut agent other)
-    (more : later ≡ journals ++ journal ∷ []) (of : journal.agent ≡ agent.number) (has : journal.entries.items ≡ agent.entries.items)
+    (more : later ≡ journals ++ journal ∷ []) (of : journal.agent ≡ agent.number)
+    (has : journal.entries.items ≡ agent.entries.items)
   where
     within : place < length now
     within = slice_get_within now place agent is
@@ -119,7 +109,8 @@ module _ (k : Shape) (old now : List Agent) (journals later : List Journal) (pla
           | inr far ↦ absurd (differ (omega (arith, below, far)))
         ]
 
-    next-each : (n : ℕ) (one : Journal) → slice_get later n ≡ Some one → (one.agent ≡ n) × (one.entries.items ≡ entries_at old n)
+    next-each : (n : ℕ) (one : Journal) → slice_get later n ≡ Some one
+        → (one.agent ≡ n) × (one.entries.items ≡ entries_at old n)
     next-each n one e = whether (at-more journals journal n one (ap (λ (all : List Journal). slice_get all n) (sym more) ∙ e))
       where
         whether : (slice_get journals n ≡ Some one) ⊎ ((n ≡ length journals) × (journal ≡ one))
@@ -140,7 +131,7 @@ module _ (k : Shape) (old now : List Agent) (journals later : List Journal) (pla
       written = ap length more ∙ length-append journals (journal ∷ []) ∙ ap (λ n. n + 1) so_far.written;
       each = next-each;
       before = next-before;
-      behind = λ n l. ap entries_in (set-there now place n other (λ e. omega (arith, e, l))) ∙ so_far.behind n (omega (arith, l));
+      behind = λ n l. ap entries_in (get-set-other now place n other (λ e. omega (arith, e, l))) ∙ so_far.behind n (omega (arith, l));
       states = set-each (λ n o. state_in k o ≡ state_at k old n) now place other within
           (ap (λ y. state_of y) but.hardware ∙ sym (ap (state_in k) is) ∙ so_far.states place) (λ n differ. so_far.states n);
       inlets = set-each (λ n o. inlets_in o ≡ inlets_at old n) now place other within
@@ -165,7 +156,8 @@ module _ (k : Shape) (old now : List Agent) (journals : List Journal) (place : �
       ∙ entries-at-number journals 0 n (λ i journal e. (all.each i journal e).0 ∙ omega arith)
       ∙ at (slice_get_cases journals n).1
     where
-      at : ((journal : Journal) × (n < length journals) × (slice_get journals n ≡ Some journal) × (get_or journals n journal ≡ journal))
+      at : ((journal : Journal) × (n < length journals) × (slice_get journals n ≡ Some journal)
+          × (get_or journals n journal ≡ journal))
           ⊎ ((length journals ≤ n) × (slice_get journals n ≡ None)) → entries-in (slice_get journals n) ≡ entries_at old n
       at (inl found) = ap entries-in found.2 ∙ (all.each n found.0 found.2).1
       at (inr past) = ap entries-in past.1

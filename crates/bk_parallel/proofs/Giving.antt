@@ -33,7 +33,8 @@ ends-within k (Response from) there = omega arith
 ends-within k Memout there = omega arith
 ends-within k Memin there = omega arith
 
-pub place-within : (k : Shape) (agents : List Agent) (i place : ℕ) → IsTeam k agents → i ≡ place → IsAgent k place → i < length agents
+pub place-within : (k : Shape) (agents : List Agent) (i place : ℕ) → IsTeam k agents → i ≡ place → IsAgent k place
+    → i < length agents
 place-within k agents i place team is low =
     subst (λ (p : ℕ). p < length agents) (sym is) (subst (λ (l : ℕ). place < l) (sym team.count) low)
 
@@ -94,7 +95,8 @@ module _ (k : Shape) (agents : List Agent) (i : ℕ) (d : Agent) (more : Vec Out
   pub outlets-inlets : (n : ℕ) → inlets_at (giving_outlets agents i d more) n ≡ inlets_at agents n
   outlets-inlets n = told-as-before agents i d (with_outlets (get_or agents i d) more) within inlets_in refl n
 
-  pub outlets-added : (outlet : Outlet) (place : ℕ) → more.items ≡ (get_or agents i d).outlets.items ++ outlet ∷ [] → i ≡ place → (n : ℕ)
+  pub outlets-added : (outlet : Outlet) (place : ℕ) → more.items ≡ (get_or agents i d).outlets.items ++ outlet ∷ []
+      → i ≡ place → (n : ℕ)
       → outlets_at (giving_outlets agents i d more) n ≡ (if place == n then outlets_at agents n ++ outlet ∷ [] else outlets_at agents n)
   outlets-added outlet place added is n =
       told-changed agents i d (with_outlets (get_or agents i d) more) within outlets_in (λ (xs : List Outlet). xs ++ outlet ∷ []) place
@@ -129,7 +131,8 @@ module _ (k : Shape) (agents : List Agent) (i : ℕ) (d : Agent) (more : Vec Inl
   pub inlets-outlets : (n : ℕ) → outlets_at (giving_inlets agents i d more) n ≡ outlets_at agents n
   inlets-outlets n = told-as-before agents i d (with_inlets (get_or agents i d) more) within outlets_in refl n
 
-  pub inlets-added : (inlet : Inlet) (place : ℕ) → more.items ≡ (get_or agents i d).inlets.items ++ inlet ∷ [] → i ≡ place → (n : ℕ)
+  pub inlets-added : (inlet : Inlet) (place : ℕ) → more.items ≡ (get_or agents i d).inlets.items ++ inlet ∷ [] → i ≡ place
+      → (n : ℕ)
       → inlets_at (giving_inlets agents i d more) n ≡ (if place == n then inlets_at agents n ++ inlet ∷ [] else inlets_at agents n)
   inlets-added inlet place added is n =
       told-changed agents i d (with_inlets (get_or agents i d) more) within inlets_in (λ (xs : List Inlet). xs ++ inlet ∷ []) place
@@ -175,7 +178,8 @@ module _ (k : Shape) (agents : List Agent) (channel : Channel) (team : IsTeam k 
       taken = none;
       sent = nothing;
       inlets = λ n. inlets-added k (giving_outlets agents i d more) j e others end-in inlet (ends_at k channel) also to n
-          ∙ ap (λ (xs : List Inlet). if ends_at k channel == n then xs ++ inlet ∷ [] else xs) (outlets-inlets k agents i d more begin-in n);
+          ∙ ap (λ (xs : List Inlet). if ends_at k channel == n then xs ++ inlet ∷ [] else xs)
+              (outlets-inlets k agents i d more begin-in n);
       outlets = λ n. inlets-outlets k (giving_outlets agents i d more) j e others end-in n
           ∙ outlets-added k agents i d more begin-in outlet (begins_at k channel) added from n;
     }

@@ -80,7 +80,8 @@ module _ (k : Shape) (program : List Form) (own s : State) where
       let there = given part others heads event local same h in absurd (cc (there, e))
 
   -- so each of its events is enabled in both or in none
-  pub same-enabled : (event : Event) → Agree k own s (agent_of k event) → is_enabled k program own event ≡ is_enabled k program s event
+  pub same-enabled : (event : Event) → Agree k own s (agent_of k event)
+      → is_enabled k program own event ≡ is_enabled k program s event
   same-enabled event agree =
       let n = agent_of k event in
       ap is_some (rows-local k program own event)

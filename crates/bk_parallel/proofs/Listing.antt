@@ -79,7 +79,8 @@ module _ {X : Type 0} where
       (one-of-one (P x) y (All-head (λ z. P z y) x xs all)))
       (pairs-append P xs y (λ i j d before within. pairs (suc i) (suc j) d (omega arith) (omega arith)) (All-tail (λ z. P z y) x xs all))
 
-pub adds-one : (k : Shape) (channel : Channel) (old : List Channel) → AreSome k old → IsBetween k channel → is_in channel old ≡ false
+pub adds-one : (k : Shape) (channel : Channel) (old : List Channel) → AreSome k old → IsBetween k channel
+    → is_in channel old ≡ false
     → Adds k channel old (old ++ channel ∷ [])
 adds-one k channel old some between none = record {
   some = record {
@@ -90,7 +91,8 @@ adds-one k channel old some between none = record {
   there = λ _. is_in-last channel old;
 }
 
-pub adds-none : (k : Shape) (channel : Channel) (old : List Channel) → AreSome k old → (IsBetween k channel → is_in channel old ≡ true)
+pub adds-none : (k : Shape) (channel : Channel) (old : List Channel) → AreSome k old
+    → (IsBetween k channel → is_in channel old ≡ true)
     → Adds k channel old old
 adds-none k channel old some there = record {
   some = some;

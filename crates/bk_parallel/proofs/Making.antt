@@ -25,7 +25,8 @@ pub record AreNew (k : Shape) (count : ℕ) (agents : List Agent) : Type 0 where
 pub no-agents : (k : Shape) (agents : List Agent) → agents ≡ [] → AreNew k 0 agents
 no-agents k agents none = subst (AreNew k 0) (sym none) (record { many = refl; each = λ n agent e. absurd (cc (e)) })
 
-pub one-more : (k : Shape) (count : ℕ) (agents later : List Agent) (agent : Agent) → later ≡ agents ++ agent ∷ [] → AreNew k count agents
+pub one-more : (k : Shape) (count : ℕ) (agents later : List Agent) (agent : Agent) → later ≡ agents ++ agent ∷ []
+    → AreNew k count agents
     → IsNew k count agent → AreNew k (count + 1) later
 one-more k count agents later agent grown new last = subst (AreNew k (count + 1)) (sym grown) (record {
   many = length-append agents (agent ∷ []) ∙ ap (λ (n : ℕ). n + 1) new.many;

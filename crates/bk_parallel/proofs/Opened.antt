@@ -34,7 +34,8 @@ map-agree f g (x ∷ xs) agree =
 -- THE ENDS OF ONE AGENT
 module _ {End : Type 0} (channel_at : End → Channel) (table_at : End → TableId) (p : Channel → Bool) (opened : List Channel)
     (channel : Channel) (ends more : List End) (end : End) (grown : more ≡ (if p channel then ends ++ end ∷ [] else ends)) where
-  ends-joined : map channel_at ends ≡ filter p opened → channel_at end ≡ channel → map channel_at more ≡ filter p (opened ++ channel ∷ [])
+  ends-joined : map channel_at ends ≡ filter p opened → channel_at end ≡ channel
+      → map channel_at more ≡ filter p (opened ++ channel ∷ [])
   ends-joined list is = by-test (p channel) grown ∙ sym (filter-append p opened (channel ∷ []))
     where
       by-test : (b : Bool) → more ≡ (if b then ends ++ end ∷ [] else ends)
@@ -91,10 +92,12 @@ module _ {End : Type 0} (channel_at : End → Channel) (packets : End → List w
 -- ALL AGENTS
 
 joined-next : (k : Shape) (opened : List Channel) (channel : Channel) (inlet : Inlet) (outlet : Outlet) (queues : Channel → TableId)
-    (old new : List Agent) → Opens k channel inlet outlet old new → All (λ other. other ≢ channel) opened → AreJoined k opened queues old
+    (old new : List Agent) → Opens k channel inlet outlet old new → All (λ other. other ≢ channel) opened
+        → AreJoined k opened queues old
     → AreJoined k (opened ++ channel ∷ []) (with_queue channel inlet.receiver.channel queues) new
 joined-next k opened channel inlet outlet queues old new opens differ joined = record {
-  inlets = λ n agent. ends-joined inlet_channel inlet_table (λ c. ends_at k c == n) opened channel (inlets_at old n) (inlets_at new n) inlet
+  inlets = λ n agent. ends-joined inlet_channel inlet_table (λ c. ends_at k c == n) opened channel (inlets_at old n)
+      (inlets_at new n) inlet
       (opens.inlets n) (joined.inlets n agent) opens.end;
   outlets = λ n agent. ends-joined outlet_channel outlet_table (λ c. begins_at k c == n) opened channel (outlets_at old n)
       (outlets_at new n) outlet (opens.outlets n) (joined.outlets n agent) opens.beginning;

@@ -54,7 +54,8 @@ not-first c x xs out =
 not-later : (c x : Channel) (xs : List Channel) → is_in c (x ∷ xs) ≡ false → is_in c xs ≡ false
 not-later c x xs out = sym (if-false (is_same x c) true (is_in c xs) (not-first c x xs out)) ∙ out
 
-pub not-in-more : (c channel : Channel) (xs : List Channel) → is_in c xs ≡ false → channel ≢ c → is_in c (xs ++ channel ∷ []) ≡ false
+pub not-in-more : (c channel : Channel) (xs : List Channel) → is_in c xs ≡ false → channel ≢ c
+    → is_in c (xs ++ channel ∷ []) ≡ false
 not-in-more c channel [] out differ = if-false (is_same channel c) true false (other-one channel c differ)
 not-in-more c channel (x ∷ xs) out differ =
     if-false (is_same x c) true (is_in c (xs ++ channel ∷ [])) (not-first c x xs out)
@@ -71,7 +72,8 @@ not-in-filter p c (x ∷ xs) out =
     not-in-kept (p x) c x (filter p xs) (not-first c x xs out) (not-in-filter p c xs (not-later c x xs out))
 
 -- of different channels, one is not in those before it
-pub fresh : (cs : List Channel) (i : ℕ) (d : Channel) → AreDifferent cs → i < length cs → is_in (get_or cs i d) (take i cs) ≡ false
+pub fresh : (cs : List Channel) (i : ℕ) (d : Channel) → AreDifferent cs → i < length cs
+    → is_in (get_or cs i d) (take i cs) ≡ false
 fresh cs i d different inside =
     let many : length (take i cs) ≡ i = length-take-le i cs (omega (arith, inside)) in
     false_from_ne_true (is_in (get_or cs i d) (take i cs)) (λ there.

@@ -76,7 +76,8 @@ not-taken (inlet ∷ inlets) channel none =
 
 -- THE HEAD THAT THE ENGINE HOLDS
 
-if-engine : (choice : Choice) (k : Shape) (channel : Channel) → popped_channel choice ≡ Some channel → ends_at k channel ≡ engine_number k
+if-engine : (choice : Choice) (k : Shape) (channel : Channel) → popped_channel choice ≡ Some channel
+    → ends_at k channel ≡ engine_number k
 if-engine choice k channel e = whether (eqb choice.class CLASS_RESPONSE) (eqb choice.class CLASS_MEMORY) (eqb choice.class CLASS_REQUEST) e
   where
     whether : (a b c : Bool) → (cond a (Some (channels.Response choice.source)) (cond b (Some channels.Memin)
@@ -175,7 +176,8 @@ module _ (task : Task) (s : State) (old opened worked closed emptied : List Agen
             entries) (sym (round.told n)) (round.works n l);
         others = λ n far. round.told n ∙ ap entries_in (none-at k worked n round.team far);
         parts = λ n l. ap (λ (t : State). part_of k t n) (round.states n) ∙ round.stand.parts n l;
-        inboxes = λ channel l. ap (λ (t : State). channel_of t channel) (round.states (ends_at k channel)) ∙ round.stand.inboxes channel l;
+        inboxes = λ channel l. ap (λ (t : State). channel_of t channel) (round.states (ends_at k channel))
+            ∙ round.stand.inboxes channel l;
         queues = λ channel there apart. round.shut.queues channel (record { there = there; apart = apart });
         none = λ channel. nothing-took channel (is-there k channel);
       }
@@ -227,7 +229,8 @@ module _ (task : Task) (s : State) (old opened worked closed emptied : List Agen
           (sym ((round.works n l).outbox channel outward) ∙ none) in
           (parts.0, no-packets (clock_at worked n) (channel_of (now n) channel) parts.1)
 
-      outbox : (n : ℕ) (channel : Channel) → IsAgent k n → IsOutward k n channel → IsChannel k channel ⊎ (IsChannel k channel → ⊥)
+      outbox : (n : ℕ) (channel : Channel) → IsAgent k n → IsOutward k n channel
+          → IsChannel k channel ⊎ (IsChannel k channel → ⊥)
           → channel_of (later n) channel ≡ []
       outbox n channel l outward (inl there) =
           content n channel
@@ -242,7 +245,8 @@ module _ (task : Task) (s : State) (old opened worked closed emptied : List Agen
           none (inr nothing) = nothing
 
       -- a head of a channel that leads to the agent is still there
-      head-kept : (n : ℕ) (channel : Channel) (m : Row) → ends_at k channel ≡ n → IsBetween k channel ⊎ (IsBetween k channel → ⊥)
+      head-kept : (n : ℕ) (channel : Channel) (m : Row) → ends_at k channel ≡ n
+          → IsBetween k channel ⊎ (IsBetween k channel → ⊥)
           → heads_of (now n) channel ≡ Some m → heads_of (later n) channel ≡ Some m
       head-kept n channel m ends (inl leads) e =
           ap first (content n channel
@@ -327,6 +331,7 @@ module _ (task : Task) (s : State) (old opened worked closed emptied : List Agen
               (same-inbox channel (subst (IsAgent k) (sym ends) l) (is-between k channel)));
         }
 
-        pub rests : ((n : ℕ) → IsAgent k n → IsIdle k task.program task.operations (now n) n) → IsEnd k task.program s task.operations
+        pub rests : ((n : ℕ) → IsAgent k n → IsIdle k task.program task.operations (now n) n)
+            → IsEnd k task.program s task.operations
         rests idle = all-idle k task.program task.operations s
             (λ n l. same-idle k task.program (now n) s task.operations n (agree n l) (idle n l))

@@ -55,7 +55,8 @@ module _ {X : Type 0} (agent_of : X → Agent) (ending_of : X → Ending) where
       → (agents ≡ map agent_of all) × All (HasEnded idle) all
   all-seen all rest many agents idle seen none =
       let empty : rest ≡ [] = nil_from_length rest (sym seen.count ∙ none) in
-      let whole : seen.before ≡ all = sym (append-nil seen.before) ∙ ap (λ (xs : List X). seen.before ++ xs) (sym empty) ∙ seen.split in
+      let whole : seen.before ≡ all = sym (append-nil seen.before) ∙ ap (λ (xs : List X). seen.before ++ xs) (sym empty)
+          ∙ seen.split in
       (seen.taken ∙ ap (map agent_of) whole, subst (All (HasEnded idle)) whole seen.ended)
 
   -- THE ROUND

@@ -36,7 +36,8 @@ back xs now new n is many same =
 
 module _ (task : Task) (idle : Bool) (opened worked : List Agent) (team : IsTeam task.config opened)
     (count : length worked ≡ length opened)
-    (work : (n : ℕ) (old new : Agent) → slice_get opened n ≡ Some old → slice_get worked n ≡ Some new → HasWorked task idle old new)
+    (work : (n : ℕ) (old new : Agent) → slice_get opened n ≡ Some old → slice_get worked n ≡ Some new
+        → HasWorked task idle old new)
   where
     abbrev k : Shape
     k = task.config
@@ -140,7 +141,8 @@ opened-ready k s list old opened between stand opens =
 module _ (task : Task) (s : State) (idle last : Bool) (list : List Channel) (old opened worked shut emptied : List Agent)
     (journals : List Journal) (events : List Event) (between : AreBetween task.config list) (stand : Stand task.config s old)
     (opens : Opens task.config list old opened) (count : length worked ≡ length opened)
-    (work : (n : ℕ) (was new : Agent) → slice_get opened n ≡ Some was → slice_get worked n ≡ Some new → HasWorked task idle was new)
+    (work : (n : ℕ) (was new : Agent) → slice_get opened n ≡ Some was → slice_get worked n ≡ Some new
+        → HasWorked task idle was new)
     (closes : Closes task.config worked shut) (empties : Empties task.config shut emptied journals) (merge : IsMerge journals events)
   where
     abbrev left : Channels Channel Row
@@ -179,7 +181,8 @@ module _ (task : Task) (s : State) (idle last : Bool) (list : List Channel) (old
 
 -- THE SAME, OF LISTS AND A CONFIGURATION AS THE CODE NAMES THEM
 
-pub opens-as : (k config : Shape) (list : List Channel) (old now opened raw : List Agent) → config ≡ k → now ≡ old → opened ≡ raw
+pub opens-as : (k config : Shape) (list : List Channel) (old now opened raw : List Agent) → config ≡ k → now ≡ old
+    → opened ≡ raw
     → Opens config list now opened → Opens k list old raw
 opens-as k config list old now opened raw same is came h =
     subst (λ (x : List Agent). Opens k list old x) came

@@ -29,4 +29,5 @@ pub record CanWork (k : Shape) (agent : Agent) : Type 0 where
 
 -- Unless memory ran out, a round that ended so was made, and it may be said to be idle only where it ended idle.
 abbrev pub EndsRound : Task → Ending → Agent → Agent → Type 0
-EndsRound task ending old new = ending ≢ OutOfMemory → (idle : Bool) → (idle ≡ true → ending ≡ Idle) → HasWorked task idle old new
+EndsRound task ending old new = ending ≢ OutOfMemory → (idle : Bool) → (idle ≡ true → ending ≡ Idle)
+    → HasWorked task idle old new

@@ -80,7 +80,8 @@ fn agents_of<F: Fn(&[WayView]) -> u8 + Copy + Send>(
     seats: Vec<Seat<F>>,
 ) -> Result<(Vec<Agent>, bool), AllocError>
     ensures agents { IfOk result (λ r. r.0.items ≡ map (λ (seat : places.Seat F). seat.agent) seats.items) }
-    ensures ended { IfOk result (λ r. All (λ (seat : places.Seat F). (seat.ending ≢ OutOfMemory) × (r.1 ≡ true → seat.ending ≡ Idle))
+    ensures ended { IfOk result (λ r. All (λ (seat : places.Seat F). (seat.ending ≢ OutOfMemory)
+        × (r.1 ≡ true → seat.ending ≡ Idle))
         seats.items) }
 {
     let mut agents = Vec::new(alloc);
@@ -105,8 +106,10 @@ fn work_all<R: Threads + Wait + Sync, F: Fn(&[WayView]) -> u8 + Copy + Send, G: 
     gate: &G,
 )
     requires few { length program.now ≤ 256 }
-    requires policies { (n : ℕ) (d : places.Seat F) → n < length seats.old → IsPolicy F.Fn (slice_index_or seats.old n d).victim.pick }
-    requires can { (n : ℕ) (d : places.Seat F) → n < length seats.old → CanWork trace.now.config (slice_index_or seats.old n d).agent }
+    requires policies { (n : ℕ) (d : places.Seat F) → n < length seats.old
+        → IsPolicy F.Fn (slice_index_or seats.old n d).victim.pick }
+    requires can { (n : ℕ) (d : places.Seat F) → n < length seats.old
+        → CanWork trace.now.config (slice_index_or seats.old n d).agent }
     ensures count { length seats.new ≡ length seats.old }
     ensures ends { (n : ℕ) (d : places.Seat F) → n < length seats.old
         → EndsRound (task_of (FnReturnsAt F.Fn (slice_index_or seats.old n d).victim.pick) program.now trace.now)
