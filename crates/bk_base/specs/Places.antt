@@ -2,6 +2,7 @@
 use Rattle.std.specs.Prelude.{◌≡◌, ℕ, ◌+◌, ◌*◌, ◌/◌, ◌%◌, ◌^◌, ◌<◌, Bool, ◌&&◌, ◌||◌, Option, Some, None, Result, Ok, Err, nat_lt, nat_le, ◌==◌, if◌then◌else◌, IsTrue}
 use Rattle.bk_base.specs.declared.config.BadConfig.{BadConfig}
 use Rattle.bk_base.specs.declared.config.BadConfig.TheVariants.{Caches, Sets, Ways}
+use Rattle.bk_base.specs.declared.config.TheConstants.{MOST_CACHES, MOST_WAYS}
 
 -- the numbers of a configuration
 pub record Shape : Type 0 where
@@ -13,22 +14,26 @@ pub record Shape : Type 0 where
 abbrev pub is_set_count : ℕ → Bool
 is_set_count n = n == 1 || n == 2 || n == 4 || n == 8 || n == 16 || n == 32 || n == 64
 
--- a number from 1 to 8
-abbrev pub is_small_count : ℕ → Bool
-is_small_count n = nat_le 1 n && nat_le n 8
+-- a number from 1 to 16
+abbrev pub is_cache_count : ℕ → Bool
+is_cache_count n = nat_le 1 n && nat_le n MOST_CACHES
 
--- the profile: 1 to 8 caches, a power of two up to 64 of sets, 1 to 8 ways
+-- a number from 1 to 8
+abbrev pub is_way_count : ℕ → Bool
+is_way_count n = nat_le 1 n && nat_le n MOST_WAYS
+
+-- the profile: 1 to 16 caches, a power of two up to 64 of sets, 1 to 8 ways
 pub record InProfile (k : Shape) : Type 0 where
-  pub caches : IsTrue (is_small_count k.caches)
+  pub caches : IsTrue (is_cache_count k.caches)
   pub sets : IsTrue (is_set_count k.sets)
-  pub ways : IsTrue (is_small_count k.ways)
+  pub ways : IsTrue (is_way_count k.ways)
 
 -- the configuration of three numbers, or the first of them that is outside the profile
 abbrev pub config_of : ℕ → ℕ → ℕ → Result Shape BadConfig
 config_of caches sets ways =
-    if is_small_count caches
+    if is_cache_count caches
     then (if is_set_count sets
-    then (if is_small_count ways then Ok (record { caches = caches; sets = sets; ways = ways }) else Err Ways)
+    then (if is_way_count ways then Ok (record { caches = caches; sets = sets; ways = ways }) else Err Ways)
     else Err Sets)
     else Err Caches
 

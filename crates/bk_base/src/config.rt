@@ -3,15 +3,21 @@ ghost use Rattle.bk_base.specs.Places.{config_of, is_set_count};
 
 use std::marker::Model;
 
+/// The greatest number of caches of a system.
+pub const MOST_CACHES: u8 = 16;
+
+/// The greatest number of ways of a set.
+pub const MOST_WAYS: u8 = 8;
+
 /// How many caches, sets and ways a system has, within the profile:
-/// 1 to 8 caches; 1, 2, 4, 8, 16, 32 or 64 sets; 1 to 8 ways.
+/// 1 to 16 caches; 1, 2, 4, 8, 16, 32 or 64 sets; 1 to 8 ways.
 #[derive(Clone, Copy, Debug, PartialEq, Eq)]
 pub struct Config {
-    /// The number of caches, 1 to 8.
+    /// The number of caches, 1 to 16 (`MOST_CACHES`).
     pub caches: u8,
     /// The number of sets of each cache, a power of two up to 64.
     pub sets: u8,
-    /// The number of ways of each set, 1 to 8.
+    /// The number of ways of each set, 1 to 8 (`MOST_WAYS`).
     pub ways: u8,
 }
 
@@ -48,13 +54,13 @@ impl Config {
     pub fn make(caches: u8, sets: u8, ways: u8) -> Result<Config, BadConfig>
         ensures { result ≡ config_of caches sets ways }
     {
-        if caches == 0 || caches > 8 {
+        if caches == 0 || caches > MOST_CACHES {
             return Err(BadConfig::Caches);
         }
         if !is_set_count(sets) {
             return Err(BadConfig::Sets);
         }
-        if ways == 0 || ways > 8 {
+        if ways == 0 || ways > MOST_WAYS {
             return Err(BadConfig::Ways);
         }
         Ok(Config { caches, sets, ways })

@@ -8,5 +8,5 @@ mod op;
 
 pub use addr::{Addr, block_of, group_of, set_of, tag_at, tag_of, word_of};
 pub use coh::Coh;
-pub use config::{BadConfig, Config};
+pub use config::{BadConfig, Config, MOST_CACHES, MOST_WAYS};
 pub use op::{Done, Op};

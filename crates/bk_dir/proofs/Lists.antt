@@ -10,7 +10,8 @@ use Rattle.std.proofs.lemmas.Bool.Decides.{nat_tests}
 use Rattle.std.proofs.lemmas.List.{get_or_read_under}
 use mathlib.Core.Path.{fun_ext}
 use Rattle.bk_base.specs.Tables.{put}
-use Rattle.bk_base.specs.Places.{Shape, InProfile, is_small_count, is_set_count, tag_limit}
+use Rattle.bk_base.specs.Places.{Shape, InProfile, is_cache_count, is_way_count, is_set_count, tag_limit}
+use Rattle.bk_base.specs.declared.config.TheConstants.{MOST_CACHES}
 use Rattle.bk_dir.specs.declared.entry.Entry.{Entry}
 use Rattle.bk_dir.specs.Contents.{empty_entry}
 use Rattle.bk_dir.specs.Segments.{number_of, field_at, field_of, entry_in, word_at, segment_of, IsField}
@@ -20,11 +21,11 @@ use Rattle.bk_dir.proofs.Fields.{field-written, entry-again, field-of-entry, no-
 use Rattle.bk_dir.proofs.Words.{IsWords, of-number, number-small}
 
 -- the entry in a field
-pub entries_of-at : (xs : List (List ℕ)) (c g w : ℕ) → c < 8 → entries_of xs c g w ≡ entry_in (field_in xs (place_of c g) w)
+pub entries_of-at : (xs : List (List ℕ)) (c g w : ℕ) → c < MOST_CACHES → entries_of xs c g w ≡ entry_in (field_in xs (place_of c g) w)
 unfolding entries_of
 entries_of-at xs c g w l = grind (arith, nat_tests)
 
-entries_of-off : (xs : List (List ℕ)) (c g w : ℕ) → 8 ≤ c → entries_of xs c g w ≡ empty_entry
+entries_of-off : (xs : List (List ℕ)) (c g w : ℕ) → MOST_CACHES ≤ c → entries_of xs c g w ≡ empty_entry
 unfolding entries_of
 entries_of-off xs c g w l = grind (arith, nat_tests)
 
@@ -79,7 +80,7 @@ written-one true x field old again there = again
 written-one false x field old again there = sym there
 
 -- the entry in the field, of which no other place has one
-chosen : (xs : List (List ℕ)) (c g w : ℕ) (x : Entry) (c' g' w' : ℕ) → c < 8 → c' < 8
+chosen : (xs : List (List ℕ)) (c g w : ℕ) (x : Entry) (c' g' w' : ℕ) → c < MOST_CACHES → c' < MOST_CACHES
     → entry_in (cond (eqb (place_of c' g') (place_of c g)) (cond (eqb w' w) (field_of x) (field_in xs (place_of c' g') w'))
     (field_in xs (place_of c' g') w'))
     ≡ cond (eqb c' c) (cond (eqb g' g) (cond (eqb w' w) x (entries_of xs c g w')) (entries_of xs c g' w')) (entries_of xs c' g' w')
@@ -105,12 +106,12 @@ chosen xs c g w x c' g' w' lc less =
     ]
 
 -- one field of the segments written is one entry of the function written: no other segment has its place
-written-at : (xs : List (List ℕ)) (c g w : ℕ) (x : Entry) (new : List ℕ) (c' g' w' : ℕ) → c < 8 → place_of c g < length xs
+written-at : (xs : List (List ℕ)) (c g w : ℕ) (x : Entry) (new : List ℕ) (c' g' w' : ℕ) → c < MOST_CACHES → place_of c g < length xs
     → IsOver (get_or xs (place_of c g) []) new w x
     → entries_of (set xs (place_of c g) new) c' g' w'
     ≡ cond (eqb c' c) (cond (eqb g' g) (cond (eqb w' w) x (entries_of xs c g w')) (entries_of xs c g' w')) (entries_of xs c' g' w')
 written-at xs c g w x new c' g' w' lc l over =
-    elim (cases_lt c' 8) [
+    elim (cases_lt c' MOST_CACHES) [
       | inl less ↦
           let fields = fields-set xs (place_of c g) w x new (place_of c' g') w' l over in
           entries_of-at (set xs (place_of c g) new) c' g' w' less ∙ ap entry_in fields ∙ chosen xs c g w x c' g' w' lc less
@@ -130,7 +131,7 @@ written-way f c s w x c' s' w' =
       | inr n ↦ grind (arith, nat_tests)
     ]
 
-pub entries_of-set : (xs : List (List ℕ)) (c g w : ℕ) (x : Entry) (new : List ℕ) → c < 8 → place_of c g < length xs
+pub entries_of-set : (xs : List (List ℕ)) (c g w : ℕ) (x : Entry) (new : List ℕ) → c < MOST_CACHES → place_of c g < length xs
     → IsOver (get_or xs (place_of c g) []) new w x
     → entries_of (set xs (place_of c g) new) ≡ put (entries_of xs) c (put (entries_of xs c) g (put (entries_of xs c g) w x))
 entries_of-set xs c g w x new lc l over =
@@ -153,15 +154,18 @@ fields_of-set k xs i w x new l over lt lw fields j v =
       | inr differ ↦ rw (ne_eqb j i differ) (fields j v)
     ])
 
--- there are at most eight caches, and eight ways
-small_count : (n : ℕ) → IsTrue (is_small_count n) → n ≤ 8
-small_count n h = grind (arith, nat_tests)
+-- there are at most sixteen caches, and eight ways
+cache_count : (n : ℕ) → IsTrue (is_cache_count n) → n ≤ 16
+cache_count n h = grind (arith, nat_tests)
 
-pub few_caches : (k : Shape) → InProfile k → k.caches ≤ 8
-few_caches k h = small_count k.caches h.caches
+pub few_caches : (k : Shape) → InProfile k → k.caches ≤ MOST_CACHES
+few_caches k h = cache_count k.caches h.caches
+
+way_count : (n : ℕ) → IsTrue (is_way_count n) → n ≤ 8
+way_count n h = grind (arith, nat_tests)
 
 pub few_ways : (k : Shape) → InProfile k → k.ways ≤ 8
-few_ways k h = small_count k.ways h.ways
+few_ways k h = way_count k.ways h.ways
 
 set_count : (n : ℕ) → IsTrue (is_set_count n) → n ≤ 64
 set_count n h = grind (arith, nat_tests)
@@ -173,7 +177,7 @@ few_sets k h = set_count k.sets h.sets
 
 -- the words of a segment are those of its entries
 pub words-again : (k : Shape) (xs : List (List ℕ)) (c g place : ℕ) (words : List ℕ) → place < length xs → place ≡ place_of c g
-    → words ≡ get_or xs place words → IsWords words → k.ways ≤ 8 → c < 8 → AreFields k xs
+    → words ≡ get_or xs place words → IsWords words → k.ways ≤ 8 → c < MOST_CACHES → AreFields k xs
     → words ≡ segment_of k.ways (entries_of xs c g)
 words-again k xs c g place words l e read p few lc fields =
     let there : get_or xs (place_of c g) [] ≡ words =
@@ -196,7 +200,7 @@ no-field-in : (n i w : ℕ) (words : List ℕ) → number_of words ≡ 0 → fie
 no-field-in n i w words h = ap (λ x. field_at x w) (none-in n i words h) ∙ field-zero w
 
 pub entries_of-same : (n : ℕ) (words : List ℕ) → number_of words ≡ 0 → entries_of (replicate n words) ≡ λ c s w. empty_entry
-entries_of-same n words h = fun_ext (λ c. fun_ext (λ s. fun_ext (λ w. elim (cases_lt c 8) [
+entries_of-same n words h = fun_ext (λ c. fun_ext (λ s. fun_ext (λ w. elim (cases_lt c MOST_CACHES) [
   | inl less ↦ entries_of-at (replicate n words) c s w less ∙ ap entry_in (no-field-in n (place_of c s) w words h)
   | inr more ↦ entries_of-off (replicate n words) c s w more
 ])))

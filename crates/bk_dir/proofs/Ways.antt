@@ -4,6 +4,7 @@ use Rattle.std.specs.Prelude.{◌&&◌, ◌||◌, is_some, if◌then◌else◌}
 use Rattle.std.proofs.lemmas.Bool.{cases_lt, both_ways}
 use Rattle.bk_base.specs.Places.{Shape}
 use Rattle.bk_base.specs.Counting.{first_below, least_below, or_else}
+use Rattle.bk_base.specs.declared.config.TheConstants.{MOST_CACHES}
 use Rattle.bk_dir.specs.declared.entry.Entry.{Entry}
 use Rattle.bk_dir.specs.Contents.{empty_entry}
 use Rattle.bk_dir.specs.Segments.{entry_in}
@@ -32,16 +33,16 @@ least-of-eight n test few h =
     ∙ first_below-longer n (8 - n) (λ i. if test i then Some i else None) (λ i l. rw (h i l) refl)
 
 -- a way that isn't there
-entry-off : (k : Shape) (xs : List (List ℕ)) (c g w : ℕ) → AreFields k xs → c < 8 → k.ways ≤ w
+entry-off : (k : Shape) (xs : List (List ℕ)) (c g w : ℕ) → AreFields k xs → c < MOST_CACHES → k.ways ≤ w
     → entries_of xs c g w ≡ empty_entry
 entry-off k xs c g w fields lc l = entries_of-at xs c g w lc ∙ ap entry_in ((fields (place_of c g) w).there l)
 
-pub holds-off : (k : Shape) (xs : List (List ℕ)) (c g tag w : ℕ) → AreFields k xs → c < 8 → k.ways ≤ w
+pub holds-off : (k : Shape) (xs : List (List ℕ)) (c g tag w : ℕ) → AreFields k xs → c < MOST_CACHES → k.ways ≤ w
     → holds (entries_of xs c g w) tag ≡ false
 holds-off k xs c g tag w fields lc l = ap (λ (x : Entry). holds x tag) (entry-off k xs c g w fields lc l)
 
 -- a way that holds a block is there
-pub way-there : (k : Shape) (xs : List (List ℕ)) (c g tag w : ℕ) → AreFields k xs → c < 8
+pub way-there : (k : Shape) (xs : List (List ℕ)) (c g tag w : ℕ) → AreFields k xs → c < MOST_CACHES
     → holds (entries_of xs c g w) tag ≡ true
     → w < k.ways
 way-there k xs c g tag w fields lc h =
@@ -51,7 +52,7 @@ way-there k xs c g tag w fields lc h =
     ]
 
 -- a test of what holds a block, with a further test of it
-pub also-off : (k : Shape) (xs : List (List ℕ)) (c g tag w : ℕ) (also : Bool) → AreFields k xs → c < 8 → k.ways ≤ w
+pub also-off : (k : Shape) (xs : List (List ℕ)) (c g tag w : ℕ) (also : Bool) → AreFields k xs → c < MOST_CACHES → k.ways ≤ w
     → (holds (entries_of xs c g w) tag && also) ≡ false
 also-off k xs c g tag w also fields lc l = rw (holds-off k xs c g tag w fields lc l) refl
 

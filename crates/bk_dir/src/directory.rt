@@ -1,28 +1,29 @@
 ghost use Rattle.std.specs.Prelude.{◌≡◌, ◌+◌, ◌*◌, ◌^◌, ◌<◌, ◌≤◌, true, false, vec_len, IfOk};
 ghost use Rattle.bk_base.specs.Places.{tag_limit};
+ghost use Rattle.bk_base.specs.declared.config.TheConstants.{MOST_CACHES};
 ghost use Rattle.bk_dir.specs.Lists.{AreFields, place_of};
 
 use crate::entry::Entry;
 use crate::segment::{SEGMENT_WORDS, entry_in, field, field_of, words_of, write_field};
-use bk_base::{Coh, Config};
+use bk_base::{Coh, Config, MOST_CACHES};
 use std::alloc::{AllocError, Global};
 
-/// How far apart the segments of two sets stand: a set has room for eight caches.
-const SET_STRIDE: usize = 8;
+/// How far apart the segments of two sets stand: a set has room for as many caches as a system may have.
+const SET_STRIDE: usize = MOST_CACHES as usize;
 
 /// A directory by duplicate tags: it has an entry for each way of each cache, and a pending bit for each way group.
 /// Contracts see what it holds, as `contents_of` tells, and its configuration.
 #[derive(Drop)]
 pub struct Directory {
     pub(crate) config: Config,
-    /// By set * 8 + cache, so that what the caches have of one set stands together.
+    /// By set * 16 + cache, so that what the caches have of one set stands together.
     segments: Vec<[u64; 5]>,
     /// By way group, a bit each, group 0 in the lowest.
     pending: u64,
-    ghost few_caches: { config.caches ≤ 8 },
+    ghost few_caches: { config.caches ≤ MOST_CACHES },
     ghost few_ways: { config.ways ≤ 8 },
     ghost few_sets: { config.sets ≤ 64 },
-    ghost segments_each: { vec_len segments ≡ config.sets * 8 },
+    ghost segments_each: { vec_len segments ≡ config.sets * MOST_CACHES },
     ghost fields: { AreFields config segments.items },
     ghost pending_each: { pending < 2 ^ config.sets },
 }

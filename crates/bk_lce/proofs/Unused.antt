@@ -5,14 +5,14 @@ use Rattle.std.proofs.lemmas.Bool.Decides.{nat_tests}
 use Rattle.std.proofs.lemmas.List.{get_or-replicate}
 use Rattle.std.proofs.lemmas.Nat.{mod_below, one_shl, pow_pos}
 use Rattle.std.proofs.Math.ListN.{get_or-eq_default, length-replicate}
-use Rattle.bk_base.specs.Places.{Shape, is_small_count}
+use Rattle.bk_base.specs.Places.{Shape, is_way_count}
 use Rattle.bk_lce.specs.CacheState.{empty_line, ways_in_order, packed}
 use Rattle.bk_lce.specs.Lists.{place_of, lines_of, digits, recency_of, IsListed, AreOpening, AreOrdered, AreListed}
 use Rattle.bk_lce.proofs.Recent.{times-in_order}
 
--- a count from 1 to 8
-pub small_count : (n : ℕ) → IsTrue (is_small_count n) → (1 ≤ n) × (n ≤ 8)
-small_count n h = grind (arith, nat_tests)
+-- a number of ways is from 1 to 8
+pub way_count : (n : ℕ) → IsTrue (is_way_count n) → (1 ≤ n) × (n ≤ 8)
+way_count n h = grind (arith, nat_tests)
 
 same_everywhere : {X : Type 0} (n i : ℕ) (x : X) → slice_index_or (replicate n x) i x ≡ x
 same_everywhere {X} n i x =

@@ -3,7 +3,7 @@ use Rattle.std.proofs.Common.{◌≡◌, ℕ, Bool, true, false, ◌&&◌, cond,
 use Rattle.std.specs.Prelude.{Option, Some, None, is_none, option_and_then, Result, Ok, Err}
 use Rattle.std.specs.Option.{option_map}
 use Rattle.std.specs.List.{list_all}
-use Rattle.bk_base.specs.Places.{Shape, is_small_count, is_set_count}
+use Rattle.bk_base.specs.Places.{Shape, is_cache_count, is_way_count, is_set_count}
 use Rattle.bk_base.specs.declared.op.Op.{Op}
 use Rattle.bk_base.specs.declared.op.Op.TheVariants.{Load, Store, UcLoad, UcStore, Evict}
 use Rattle.bk_text.specs.Texts.{is_text_byte, number_of}
@@ -195,28 +195,28 @@ abbrev shape : ℕ → ℕ → ℕ → Shape
 shape c set w = record { caches = c; sets = set; ways = w }
 
 abbrev with_ways : ℕ → ℕ → LineWords → Result Shape At
-with_ways c set left = field kinds.Config (count_of is_small_count) left >>= λ ways. done ways.1 (shape c set ways.0)
+with_ways c set left = field kinds.Config (count_of is_way_count) left >>= λ ways. done ways.1 (shape c set ways.0)
 
 abbrev with_sets : ℕ → LineWords → Result Shape At
 with_sets c left = field kinds.Config (count_of is_set_count) left >>= λ sets. with_ways c sets.0 sets.1
 
 abbrev with_caches : Bool → LineWords → Result Shape At
-with_caches name left = field kinds.Config (count_of is_small_count) left >>= λ caches. with_sets caches.0 caches.1
+with_caches name left = field kinds.Config (count_of is_cache_count) left >>= λ caches. with_sets caches.0 caches.1
 
 abbrev ways_words : ℕ → ℕ → List Marked → Option Shape
-ways_words c set = next_in (count_of is_small_count) (λ w. none_left (shape c set w))
+ways_words c set = next_in (count_of is_way_count) (λ w. none_left (shape c set w))
 
 abbrev sets_words : ℕ → List Marked → Option Shape
 sets_words c = next_in (count_of is_set_count) (ways_words c)
 
 abbrev caches_words : Bool → List Marked → Option Shape
-caches_words name = next_in (count_of is_small_count) sets_words
+caches_words name = next_in (count_of is_cache_count) sets_words
 
 abbrev config_words : List Marked → Option Shape
 config_words = next_in config_word caches_words
 
 ways_agree : (c set : ℕ) → Agrees (with_ways c set) (ways_words c set)
-ways_agree c set left = field_agrees kinds.Config (count_of is_small_count) (count_textual is_small_count) (λ w r. done r (shape c set w))
+ways_agree c set left = field_agrees kinds.Config (count_of is_way_count) (count_textual is_way_count) (λ w r. done r (shape c set w))
     (λ w. none_left (shape c set w)) (λ w r. done_agrees (shape c set w) r.words r.bad) left.words left.bad left.end
 
 sets_agree : (c : ℕ) → Agrees (with_sets c) (sets_words c)
@@ -224,7 +224,7 @@ sets_agree c left = field_agrees kinds.Config (count_of is_set_count) (count_tex
     (ways_agree c) left.words left.bad left.end
 
 caches_agree : (name : Bool) → Agrees (with_caches name) (caches_words name)
-caches_agree name left = field_agrees kinds.Config (count_of is_small_count) (count_textual is_small_count) with_sets sets_words sets_agree
+caches_agree name left = field_agrees kinds.Config (count_of is_cache_count) (count_textual is_cache_count) with_sets sets_words sets_agree
     left.words left.bad left.end
 
 name_config_agrees : Agrees config_at config_words
@@ -240,15 +240,15 @@ config_words_are : (words : List Marked) → config_words words ≡ shape_of (ma
 unfolding shape_of
 config_words_are [] = refl
 config_words_are (n ∷ []) = bind_nothing (config_word n.word) _ (λ x. refl)
-config_words_are (n ∷ c ∷ []) = bind_nothing (config_word n.word) _ (λ x. bind_nothing (count_of is_small_count c.word) _ (λ y. refl))
+config_words_are (n ∷ c ∷ []) = bind_nothing (config_word n.word) _ (λ x. bind_nothing (count_of is_cache_count c.word) _ (λ y. refl))
 config_words_are (n ∷ c ∷ s ∷ []) =
     bind_nothing (config_word n.word) _
-    (λ x. bind_nothing (count_of is_small_count c.word) _ (λ y. bind_nothing (count_of is_set_count s.word) _ (λ z. refl)))
+    (λ x. bind_nothing (count_of is_cache_count c.word) _ (λ y. bind_nothing (count_of is_set_count s.word) _ (λ z. refl)))
 config_words_are (n ∷ c ∷ s ∷ w ∷ []) = bind_config (is_config n.word) (caches_words true (c ∷ s ∷ w ∷ []))
 config_words_are (n ∷ c ∷ s ∷ w ∷ v ∷ words) =
     bind_nothing (config_word n.word) _
-    (λ x. bind_nothing (count_of is_small_count c.word) _
-    (λ y. bind_nothing (count_of is_set_count s.word) _ (λ z. bind_nothing (count_of is_small_count w.word) _ (λ u. refl))))
+    (λ x. bind_nothing (count_of is_cache_count c.word) _
+    (λ y. bind_nothing (count_of is_set_count s.word) _ (λ z. bind_nothing (count_of is_way_count w.word) _ (λ u. refl))))
 
 -- a line of a configuration
 pub config_agrees : (left : LineWords) → ok_of (config_at left) ≡ guard (is_text_line left) (shape_of (map bytes_of left.words))

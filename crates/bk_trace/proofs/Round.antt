@@ -10,7 +10,7 @@ use Rattle.std.proofs.lemmas.Fmt.{decimal_is_IsNumeral, digits_is_IsNumeral}
 use Rattle.std.proofs.lemmas.List.{take_all, length-map}
 use Rattle.std.proofs.lemmas.List.Elements.{recursion_from_All}
 use Rattle.std.proofs.lemmas.List.Concat.{flat_map-cons}
-use Rattle.bk_base.specs.Places.{Shape, InProfile, is_small_count, is_set_count}
+use Rattle.bk_base.specs.Places.{Shape, InProfile, is_cache_count, is_way_count, is_set_count}
 use Rattle.bk_base.specs.declared.op.Op.{Op}
 use Rattle.bk_base.specs.declared.op.Op.TheVariants.{Load, Store, UcLoad, UcStore, Evict}
 use Rattle.bk_text.specs.Texts.{is_text_byte, is_blank, is_nonempty, is_digit, before_comment, words_of}
@@ -161,8 +161,11 @@ op_is_read caches cache (UcLoad a) small low h = rw (below_again caches cache sm
 op_is_read caches cache (UcStore a v) small low h = rw (below_again caches cache small low, address_again a h.0, decimal_again v h.1) refl
 op_is_read caches cache (Evict a) small low h = rw (below_again caches cache small low, address_again a h) refl
 
-small_count : (n : ℕ) → is_small_count n ≡ true → n ≤ 8
-small_count n e = grind (arith, nat_tests)
+cache_count : (n : ℕ) → is_cache_count n ≡ true → n ≤ 16
+cache_count n e = grind (arith, nat_tests)
+
+way_count : (n : ℕ) → is_way_count n ≡ true → n ≤ 8
+way_count n e = grind (arith, nat_tests)
 
 set_count : (n : ℕ) → is_set_count n ≡ true → n ≤ 64
 set_count n e = grind (arith, nat_tests)
@@ -170,20 +173,20 @@ set_count n e = grind (arith, nat_tests)
 shape_is_read : (k : Shape) → InProfile k → shape_of (config_words k) ≡ Some k
 unfolding shape_of
 shape_is_read s h =
-    let caches = small_count s.caches h.caches in
+    let caches = cache_count s.caches h.caches in
     let sets = set_count s.sets h.sets in
-    let ways = small_count s.ways h.ways in
+    let ways = way_count s.ways h.ways in
     rw (
-      count_again is_small_count s.caches (omega arith) h.caches,
+      count_again is_cache_count s.caches (omega arith) h.caches,
       count_again is_set_count s.sets (omega arith) h.sets,
-      count_again is_small_count s.ways (omega arith) h.ways,
+      count_again is_way_count s.ways (omega arith) h.ways,
     ) refl
 
 config_is_words : (k : Shape) → InProfile k → AllByRecursion IsWord (config_words k)
 config_is_words k h =
-    let caches = small_count k.caches h.caches in
+    let caches = cache_count k.caches h.caches in
     let sets = set_count k.sets h.sets in
-    let ways = small_count k.ways h.ways in (
+    let ways = way_count k.ways h.ways in (
       literal_word (codes "config") refl refl,
       (decimal_word k.caches (omega arith), (decimal_word k.sets (omega arith), (decimal_word k.ways (omega arith), tt))),
     )
@@ -239,7 +242,7 @@ parts_again t read h is e =
 pub trace_again : (t : Parts) → IsTrace t → trace_of (spelling t) ≡ Some t
 unfolding trace_of
 trace_again t h =
-    let low = small_count t.config.caches h.profile.caches in
+    let low = cache_count t.config.caches h.profile.caches in
     let behind = lines_again t.config.caches t.lines (omega arith) (recursion_from_All (IsLine t.config.caches) t.lines h.each) in
     let text : spelling t ≡ (sentence (config_words t.config) ++ 10 ∷ []) ++ flat_map line_text t.lines =
     ap (λ x. x ++ flat_map line_text t.lines) (config_is t.config) in

@@ -2,7 +2,7 @@
 use Rattle.std.specs.Prelude.{ℕ, Bool, List, [], ◌∷◌, length, codes, Option, Some, None, option_and_then, nat_lt, nat_le, if◌then◌else◌}
 use Rattle.std.specs.Option.{option_map}
 use Rattle.std.specs.Str.{bytes_eq}
-use Rattle.bk_base.specs.Places.{Shape, is_small_count, is_set_count, addr_of}
+use Rattle.bk_base.specs.Places.{Shape, is_cache_count, is_way_count, is_set_count, addr_of}
 use Rattle.bk_base.specs.declared.op.Op.{Op}
 use Rattle.bk_base.specs.declared.op.Op.TheVariants.{Load, Store, UcLoad, UcStore, Evict}
 use Rattle.bk_text.specs.Texts.{is_text, words_by_line, number_of}
@@ -43,9 +43,9 @@ is_config word = bytes_eq word (codes "config")
 -- `config CACHES SETS WAYS`
 unfoldable pub shape_of : List (List ℕ) → Option Shape
 shape_of (name ∷ caches ∷ sets ∷ ways ∷ []) = if is_config name then (do
-  c ← count_of is_small_count caches
+  c ← count_of is_cache_count caches
   s ← count_of is_set_count sets
-  w ← count_of is_small_count ways
+  w ← count_of is_way_count ways
   Some (record { caches = c; sets = s; ways = w })) else None
 shape_of _ = None
 

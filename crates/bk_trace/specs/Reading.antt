@@ -3,7 +3,7 @@
 use Rattle.std.specs.Prelude.{ℕ, ◌+◌, Bool, true, List, [], ◌∷◌, Option, Some, None, Result, Ok, Err, nat_lt, if◌then◌else◌}
 use Rattle.std.specs.List.{list_any, cons_option}
 use Rattle.std.specs.Str.Lines.{lines}
-use Rattle.bk_base.specs.Places.{Shape, is_small_count, is_set_count}
+use Rattle.bk_base.specs.Places.{Shape, is_cache_count, is_way_count, is_set_count}
 use Rattle.bk_base.specs.declared.op.Op.{Op}
 use Rattle.bk_base.specs.declared.op.Op.TheVariants.{Load, Store, UcLoad, UcStore, Evict}
 use Rattle.bk_text.specs.Texts.{is_nonempty, number_of}
@@ -38,9 +38,9 @@ config_word word = if is_config word then Some true else None
 unfoldable pub config_at : LineWords → Result Shape At
 config_at left = do
   name ← field kinds.Config config_word left
-  caches ← field kinds.Config (count_of is_small_count) name.1
+  caches ← field kinds.Config (count_of is_cache_count) name.1
   sets ← field kinds.Config (count_of is_set_count) caches.1
-  ways ← field kinds.Config (count_of is_small_count) sets.1
+  ways ← field kinds.Config (count_of is_way_count) sets.1
   done ways.1 (record { caches = caches.0; sets = sets.0; ways = ways.0 })
 
 -- an operation, by its name and its address: a store has a value

@@ -1,5 +1,5 @@
 ghost use Rattle.std.specs.Prelude.{◌≡◌, ◌<◌, IfOk, IfSome, IsTrue};
-ghost use Rattle.bk_base.specs.Places.{InProfile, is_small_count, is_set_count};
+ghost use Rattle.bk_base.specs.Places.{InProfile, is_cache_count, is_way_count, is_set_count};
 ghost use Rattle.bk_text.specs.Texts.{number_of};
 ghost use Rattle.bk_trace.specs.Traces.{IsOp, IsLine};
 ghost use Rattle.bk_trace.specs.Grammar.{number_below, count_of, address_of, name_of};
@@ -30,8 +30,8 @@ fn config_word_at(line: &mut TextLine<'_>) -> Result<bool, At>
 
 #[tactic(auto, unfolding(crate::specs::Reading::field))]
 fn caches_at(line: &mut TextLine<'_>) -> Result<u8, At>
-    ensures value { Steps (λ x. x) result line.new (field kinds.Config (count_of is_small_count) line.old) }
-    ensures some { IfOk result (λ n. IsTrue (is_small_count n)) }
+    ensures value { Steps (λ x. x) result line.new (field kinds.Config (count_of is_cache_count) line.old) }
+    ensures some { IfOk result (λ n. IsTrue (is_cache_count n)) }
 {
     let word = word_at(Kind::Config, line)?;
     match caches_of(word.word) {
@@ -54,8 +54,8 @@ fn sets_at(line: &mut TextLine<'_>) -> Result<u8, At>
 
 #[tactic(auto, unfolding(crate::specs::Reading::field))]
 fn ways_at(line: &mut TextLine<'_>) -> Result<u8, At>
-    ensures value { Steps (λ x. x) result line.new (field kinds.Config (count_of is_small_count) line.old) }
-    ensures some { IfOk result (λ n. IsTrue (is_small_count n)) }
+    ensures value { Steps (λ x. x) result line.new (field kinds.Config (count_of is_way_count) line.old) }
+    ensures some { IfOk result (λ n. IsTrue (is_way_count n)) }
 {
     let word = word_at(Kind::Config, line)?;
     match ways_of(word.word) {

@@ -1,5 +1,5 @@
 ghost use Rattle.std.specs.Prelude.{◌≡◌, ◌<◌, IfSome, IsTrue};
-ghost use Rattle.bk_base.specs.Places.{is_small_count, is_set_count};
+ghost use Rattle.bk_base.specs.Places.{is_cache_count, is_way_count, is_set_count};
 ghost use Rattle.bk_trace.specs.Grammar.{number_below, count_of, address_of, is_config, name_of};
 
 use bk_base::{Addr, Config};
@@ -35,8 +35,8 @@ pub(crate) fn number_below(limit: u8, word: &[u8]) -> Option<u8>
 /// The number of caches that a word writes.
 #[tactic(auto, unfolding(crate::specs::Grammar::count_of))]
 pub(crate) fn caches_of(word: &[u8]) -> Option<u8>
-    ensures value { result ≡ count_of is_small_count word.now }
-    ensures some { IfSome result (λ n. IsTrue (is_small_count n)) }
+    ensures value { result ≡ count_of is_cache_count word.now }
+    ensures some { IfSome result (λ n. IsTrue (is_cache_count n)) }
 {
     let count = number_below(COUNT_LIMIT, word)?;
     if Config::make(count, 1, 1).is_ok() {
@@ -63,8 +63,8 @@ pub(crate) fn sets_of(word: &[u8]) -> Option<u8>
 /// The number of ways that a word writes.
 #[tactic(auto, unfolding(crate::specs::Grammar::count_of))]
 pub(crate) fn ways_of(word: &[u8]) -> Option<u8>
-    ensures value { result ≡ count_of is_small_count word.now }
-    ensures some { IfSome result (λ n. IsTrue (is_small_count n)) }
+    ensures value { result ≡ count_of is_way_count word.now }
+    ensures some { IfSome result (λ n. IsTrue (is_way_count n)) }
 {
     let count = number_below(COUNT_LIMIT, word)?;
     if Config::make(1, 1, count).is_ok() {
@@ -76,9 +76,9 @@ pub(crate) fn ways_of(word: &[u8]) -> Option<u8>
 
 /// The configuration of numbers in the profile.
 pub(crate) fn config_of(caches: u8, sets: u8, ways: u8) -> Config
-    requires caches { IsTrue (is_small_count caches) }
+    requires caches { IsTrue (is_cache_count caches) }
     requires sets { IsTrue (is_set_count sets) }
-    requires ways { IsTrue (is_small_count ways) }
+    requires ways { IsTrue (is_way_count ways) }
     ensures { result ≡ record { caches = caches; sets = sets; ways = ways } }
 {
     match Config::make(caches, sets, ways) {

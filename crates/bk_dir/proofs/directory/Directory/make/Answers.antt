@@ -18,12 +18,12 @@ pub invariant_of-result-clause-fields : goal.invariant_of-result-clause-fields
 invariant_of-result-clause-fields c =
     subst (λ (xs : List (List ℕ)). AreFields c.args.config xs)
     (sym (c.in_ok-segments.ensures.items_if_clones_equal (λ y same. five-zeros y same.long (λ i l. same.at i 0 0 l))))
-    (fields_of-same c.args.config (c.config.inside.sets * 8) (0 ∷ 0 ∷ 0 ∷ 0 ∷ 0 ∷ [])
+    (fields_of-same c.args.config (c.config.inside.sets * 16) (0 ∷ 0 ∷ 0 ∷ 0 ∷ 0 ∷ [])
     (subst InProfile c.config.view_is c.config.invariant) refl)
 
 pub returns-clause-state : goal.returns-clause-state
 returns-clause-state c =
     let entries = ap entries_of (c.in_ok-segments.ensures.items_if_clones_equal
     (λ y same. five-zeros y same.long (λ i l. same.at i 0 0 l)))
-    ∙ entries_of-same (c.config.inside.sets * 8) (0 ∷ 0 ∷ 0 ∷ 0 ∷ 0 ∷ []) refl in
+    ∙ entries_of-same (c.config.inside.sets * 16) (0 ∷ 0 ∷ 0 ∷ 0 ∷ 0 ∷ []) refl in
     λ i. record { entries = entries i; pending = bits_of-none i }
