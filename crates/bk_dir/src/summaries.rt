@@ -9,7 +9,7 @@ ghost use Rattle.bk_dir.specs.Summaries.{AgreeElsewhere, bits_below, found, hold
 use crate::directory::Directory;
 use crate::entry::{Entry, Query, Summary};
 use crate::segment::{SEGMENT_WAYS, code_in, tag_in};
-use bk_base::Coh;
+use bk_base::{Coh, MOST_CACHES};
 
 /// The code of `I`.
 const INVALID: u64 = 0;
@@ -117,7 +117,7 @@ fn victim_of(placed: bool, tag: u64, entry: Entry) -> Coh
 
 /// The bits with one more, where there is one.
 fn with_bit(bits: u16, place: u8, is_set: bool) -> u16
-    requires place { place < 8 }
+    requires place { place < MOST_CACHES }
     requires bits { bits < 2 ^ place }
     ensures value { result ≡ bits + (if is_set then 2 ^ place else 0) }
     ensures small { result < 2 ^ (place + 1) }

@@ -4,7 +4,7 @@ use Rattle.std.proofs.lemmas.Bool.{eqb-true, cases_Bool}
 use Rattle.bk_msg.specs.declared.fault.MsgFault.{MsgFault}
 use Rattle.bk_msg.specs.declared.fault.MsgFault.TheVariants as faults
 use Rattle.bk_msg.specs.declared.table.Rule.{Rule}
-use Rattle.bk_msg.specs.declared.table.Rule.TheVariants.{Reserved, Number, Only, State, Aligned, Any}
+use Rattle.bk_msg.specs.declared.table.Rule.TheVariants.{Reserved, Cache, Way, Only, State, Aligned, Any}
 use Rattle.bk_msg.specs.Table.{admits, fault_at}
 use Rattle.bk_msg.specs.Reading.{first_fault}
 use Rattle.bk_msg.proofs.Admitted.{AllAdmitted}
@@ -31,7 +31,8 @@ only_zero rules (b ∷ bytes) h = eqb-true b 0 h.0
 
 at_rule : (place : ℕ) (rule : Rule) (rules : List Rule) → IsFaultAt place 0 (rule ∷ rules) (fault_at rule place)
 at_rule place Reserved rules = (omega arith, only_zero rules)
-at_rule place Number rules = omega arith
+at_rule place Cache rules = omega arith
+at_rule place Way rules = omega arith
 at_rule place (Only n) rules = omega arith
 at_rule place (State states) rules = omega arith
 at_rule place (Aligned unit) rules = omega arith

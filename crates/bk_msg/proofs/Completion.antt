@@ -8,7 +8,7 @@ use Rattle.bk_msg.specs.declared.kind.Kind.{Kind}
 use Rattle.bk_msg.specs.declared.kind.Kind.TheVariants.{Rd, Wr, UcRd, UcWr, Evict, Inv, StWb, StTr, Blk, StWake, UcBlk, UcDone, Done, Fill, InvAck, CohAck, Wb, NullWb, Read, Write, WriteWord, Block}
 use Rattle.bk_msg.specs.declared.row.Row.{Row}
 use Rattle.bk_msg.specs.declared.table.Rule.{Rule}
-use Rattle.bk_msg.specs.declared.table.Rule.TheVariants.{Reserved, Number, Only, State, Aligned, Any}
+use Rattle.bk_msg.specs.declared.table.Rule.TheVariants.{Reserved, Cache, Way, Only, State, Aligned, Any}
 use Rattle.bk_msg.specs.declared.table.States.TheVariants.{Lowered, Left, Received, Granted, Modified}
 use Rattle.bk_msg.specs.declared.table.Unit.TheVariants as units
 use Rattle.bk_msg.specs.Kinds.{kind_code}
@@ -22,7 +22,8 @@ use Rattle.bk_msg.proofs.Parts.{IsBytes}
 -- a byte that the rule admits
 abbrev witness : Rule → ℕ
 witness Reserved = 0
-witness Number = 0
+witness Cache = 0
+witness Way = 0
 witness (Only n) = n
 witness (State Lowered) = 0
 witness (State Left) = 0
@@ -34,7 +35,8 @@ witness Any = 0
 
 witness_admitted : (rule : Rule) → admits rule (witness rule) ≡ true
 witness_admitted Reserved = refl
-witness_admitted Number = refl
+witness_admitted Cache = refl
+witness_admitted Way = refl
 witness_admitted (Only n) = eq-eqb n n refl
 witness_admitted (State Lowered) = refl
 witness_admitted (State Left) = refl

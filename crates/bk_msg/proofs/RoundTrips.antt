@@ -14,7 +14,7 @@ use Rattle.bk_msg.specs.declared.table.States.{States}
 use Rattle.bk_msg.specs.declared.table.Load.{Load}
 use Rattle.bk_msg.specs.declared.table.Load.TheVariants as loads
 use Rattle.bk_msg.specs.declared.table.Rule.{Rule}
-use Rattle.bk_msg.specs.declared.table.Rule.TheVariants.{Reserved, Number, Only, State, Aligned, Any}
+use Rattle.bk_msg.specs.declared.table.Rule.TheVariants.{Reserved, Cache, Way, Only, State, Aligned, Any}
 use Rattle.bk_msg.specs.declared.table.Layout.{Layout}
 use Rattle.bk_msg.specs.Table.{admits, holds_code, layout_of}
 use Rattle.bk_msg.specs.Fields.{fields_of, row_of, row_of_kind, state, load_word, load_block}
@@ -109,7 +109,8 @@ kept_state states (Some s) v e h = rw e (sym (state_found v s e))
 
 kept_is : (rule : Rule) (v : ℕ) → admits rule v ≡ true → kept rule v ≡ v
 kept_is Reserved v h = sym (eqb-true v 0 h)
-kept_is Number v h = refl
+kept_is Cache v h = refl
+kept_is Way v h = refl
 kept_is (Only n) v h = refl
 kept_is (State states) v h = kept_state states (state_of_code v) v refl h
 kept_is (Aligned unit) v h = refl

@@ -3,6 +3,7 @@ use Rattle.std.specs.Prelude.{ℕ, ◌+◌, ◌*◌, ◌%◌, ◌==◌, nat_lt, 
 use Rattle.bk_base.specs.declared.coh.Coh.{Coh}
 use Rattle.bk_base.specs.declared.coh.Coh.TheVariants.{I, S, E, F, M, O}
 use Rattle.bk_base.specs.States.{state_of_code}
+use Rattle.bk_base.specs.declared.config.TheConstants.{MOST_CACHES, MOST_WAYS}
 use Rattle.bk_msg.specs.declared.fault.MsgFault.{MsgFault}
 use Rattle.bk_msg.specs.declared.fault.MsgFault.TheVariants as faults
 use Rattle.bk_msg.specs.declared.kind.Kind.{Kind}
@@ -15,7 +16,7 @@ use Rattle.bk_msg.specs.declared.table.Unit.TheVariants as units
 use Rattle.bk_msg.specs.declared.table.Load.{Load}
 use Rattle.bk_msg.specs.declared.table.Load.TheVariants as loads
 use Rattle.bk_msg.specs.declared.table.Rule.{Rule}
-use Rattle.bk_msg.specs.declared.table.Rule.TheVariants.{Reserved, Number, Only, State, Aligned, Any}
+use Rattle.bk_msg.specs.declared.table.Rule.TheVariants.{Reserved, Cache, Way, Only, State, Aligned, Any}
 use Rattle.bk_msg.specs.declared.table.Layout.{Layout}
 
 -- the states of a set
@@ -49,7 +50,8 @@ unit_bytes units.Word = 8
 -- the bytes that may stand at a place
 abbrev pub admits : Rule → ℕ → Bool
 admits Reserved b = b == 0
-admits Number b = nat_lt b 8
+admits Cache b = nat_lt b MOST_CACHES
+admits Way b = nat_lt b MOST_WAYS
 admits (Only n) b = b == n
 admits (State states) b = holds_code states (state_of_code b)
 admits (Aligned unit) b = b % unit_bytes unit == 0
@@ -75,30 +77,30 @@ between from to address = record {
 }
 
 abbrev pub to_engine : Aligns → Layout
-to_engine = between Number (Only ENGINE)
+to_engine = between Cache (Only ENGINE)
 
 abbrev pub to_cache : Aligns → Layout
-to_cache = between (Only ENGINE) Number
+to_cache = between (Only ENGINE) Cache
 
 abbrev pub to_memory : Aligns → Layout
 to_memory = between (Only ENGINE) (Only MEMORY)
 
 -- THE TABLE: a line a kind, with what it has besides the two ends and the address
 abbrev pub layout_of : Kind → Layout
-layout_of Rd = record (to_engine units.Block) { way = Number }
-layout_of Wr = record (to_engine units.Block) { way = Number }
+layout_of Rd = record (to_engine units.Block) { way = Way }
+layout_of Wr = record (to_engine units.Block) { way = Way }
 layout_of UcRd = to_engine units.Word
 layout_of UcWr = record (to_engine units.Word) { load = loads.Word }
-layout_of Evict = record (to_engine units.Block) { way = Number }
+layout_of Evict = record (to_engine units.Block) { way = Way }
 layout_of Inv = to_cache units.Block
 layout_of StWb = record (to_cache units.Block) { state = State Lowered }
-layout_of StTr = record (to_cache units.Block) { state = State Left; peer = Number; peer_way = Number; peer_state = State Received }
-layout_of Blk = record (to_cache units.Block) { way = Number; state = State Granted; load = loads.Block }
-layout_of StWake = record (to_cache units.Block) { way = Number; state = State Modified }
+layout_of StTr = record (to_cache units.Block) { state = State Left; peer = Cache; peer_way = Way; peer_state = State Received }
+layout_of Blk = record (to_cache units.Block) { way = Way; state = State Granted; load = loads.Block }
+layout_of StWake = record (to_cache units.Block) { way = Way; state = State Modified }
 layout_of UcBlk = record (to_cache units.Word) { load = loads.Word }
 layout_of UcDone = to_cache units.Word
 layout_of Done = to_cache units.Block
-layout_of Fill = record (between Number Number units.Block) { way = Number; state = State Received; load = loads.Block }
+layout_of Fill = record (between Cache Cache units.Block) { way = Way; state = State Received; load = loads.Block }
 layout_of InvAck = to_engine units.Block
 layout_of CohAck = to_engine units.Block
 layout_of Wb = record (to_engine units.Block) { load = loads.Block }

@@ -7,15 +7,15 @@ ghost use Rattle.bk_msg.specs.Table.{holds};
 
 use crate::message::{Message, are_words};
 use crate::row::{ENGINE, MEMORY, Row};
-use bk_base::{Addr, Coh};
+use bk_base::{Addr, Coh, MOST_CACHES, MOST_WAYS};
 
 // A message of each kind, from what its fields are. The address of a block is that of its first word.
 
 impl Message {
     /// `Rd`: a cache asks for the block of an address to read; the way that it has set apart for it.
     pub fn rd(from: u8, way: u8, addr: Addr) -> Message
-        requires sender { from < 8 }
-        requires way { way < 8 }
+        requires sender { from < MOST_CACHES }
+        requires way { way < MOST_WAYS }
         ensures { result ≡ Rd from ENGINE way (block_start addr) }
     {
         Message::of(Row::Rd {
@@ -28,8 +28,8 @@ impl Message {
 
     /// `Wr`: a cache asks for the block of an address to write.
     pub fn wr(from: u8, way: u8, addr: Addr) -> Message
-        requires sender { from < 8 }
-        requires way { way < 8 }
+        requires sender { from < MOST_CACHES }
+        requires way { way < MOST_WAYS }
         ensures { result ≡ Wr from ENGINE way (block_start addr) }
     {
         Message::of(Row::Wr {
@@ -42,7 +42,7 @@ impl Message {
 
     /// `UcRd`: a cache asks for a word past the caches.
     pub fn uc_rd(from: u8, addr: Addr) -> Message
-        requires { from < 8 }
+        requires { from < MOST_CACHES }
         ensures { result ≡ UcRd from ENGINE addr }
     {
         Message::of(Row::UcRd {
@@ -54,7 +54,7 @@ impl Message {
 
     /// `UcWr`: a cache asks for a word to be written past the caches.
     pub fn uc_wr(from: u8, addr: Addr, word: u64) -> Message
-        requires { from < 8 }
+        requires { from < MOST_CACHES }
         ensures { result ≡ UcWr from ENGINE addr word }
     {
         Message::of(Row::UcWr {
@@ -67,8 +67,8 @@ impl Message {
 
     /// `Evict`: a cache asks to give the block of an address up.
     pub fn evict(from: u8, way: u8, addr: Addr) -> Message
-        requires sender { from < 8 }
-        requires way { way < 8 }
+        requires sender { from < MOST_CACHES }
+        requires way { way < MOST_WAYS }
         ensures { result ≡ Evict from ENGINE way (block_start addr) }
     {
         Message::of(Row::Evict {
@@ -81,7 +81,7 @@ impl Message {
 
     /// `Inv`: the engine has a cache drop the block of an address.
     pub fn inv(to: u8, addr: Addr) -> Message
-        requires { to < 8 }
+        requires { to < MOST_CACHES }
         ensures { result ≡ Inv ENGINE to (block_start addr) }
     {
         Message::of(Row::Inv {
@@ -93,7 +93,7 @@ impl Message {
 
     /// `StWb`: the engine lowers a cache's copy to `I` or `S` and asks for its words.
     pub fn st_wb(to: u8, state: Coh, addr: Addr) -> Message
-        requires receiver { to < 8 }
+        requires receiver { to < MOST_CACHES }
         requires state_fits { holds Lowered state ≡ true }
         ensures { result ≡ StWb ENGINE to state (block_start addr) }
     {
@@ -107,9 +107,9 @@ impl Message {
 
     /// `StTr`: the engine sets the owner's copy to `state`, and has it fill a way of a peer.
     pub fn st_tr(to: u8, state: Coh, peer: u8, peer_way: u8, peer_state: Coh, addr: Addr) -> Message
-        requires receiver { to < 8 }
-        requires peer { peer < 8 }
-        requires peer_way { peer_way < 8 }
+        requires receiver { to < MOST_CACHES }
+        requires peer { peer < MOST_CACHES }
+        requires peer_way { peer_way < MOST_WAYS }
         requires state_fits { holds Left state ≡ true }
         requires peer_state_fits { holds Received peer_state ≡ true }
         ensures { result ≡ StTr ENGINE to state peer peer_way peer_state (block_start addr) }
@@ -127,8 +127,8 @@ impl Message {
 
     /// `Blk`: the engine grants the block of an address with its words.
     pub fn blk(to: u8, way: u8, state: Coh, addr: Addr, words: [u64; 8]) -> Message
-        requires receiver { to < 8 }
-        requires way { way < 8 }
+        requires receiver { to < MOST_CACHES }
+        requires way { way < MOST_WAYS }
         requires state_fits { holds Granted state ≡ true }
         ensures { result ≡ Blk ENGINE to way state (block_start addr) words }
     {
@@ -146,8 +146,8 @@ impl Message {
 
     /// `StWake`: the engine grants `M` of a copy that the cache has.
     pub fn st_wake(to: u8, way: u8, addr: Addr) -> Message
-        requires receiver { to < 8 }
-        requires way { way < 8 }
+        requires receiver { to < MOST_CACHES }
+        requires way { way < MOST_WAYS }
         ensures { result ≡ StWake ENGINE to way M (block_start addr) }
     {
         Message::of(Row::StWake {
@@ -161,7 +161,7 @@ impl Message {
 
     /// `UcBlk`: the engine answers a word past the caches.
     pub fn uc_blk(to: u8, addr: Addr, word: u64) -> Message
-        requires { to < 8 }
+        requires { to < MOST_CACHES }
         ensures { result ≡ UcBlk ENGINE to addr word }
     {
         Message::of(Row::UcBlk {
@@ -174,7 +174,7 @@ impl Message {
 
     /// `UcDone`: the engine says that a word was written past the caches.
     pub fn uc_done(to: u8, addr: Addr) -> Message
-        requires { to < 8 }
+        requires { to < MOST_CACHES }
         ensures { result ≡ UcDone ENGINE to addr }
     {
         Message::of(Row::UcDone {
@@ -186,7 +186,7 @@ impl Message {
 
     /// `Done`: the engine says that the block of an address was given up.
     pub fn done(to: u8, addr: Addr) -> Message
-        requires { to < 8 }
+        requires { to < MOST_CACHES }
         ensures { result ≡ Done ENGINE to (block_start addr) }
     {
         Message::of(Row::Done {
@@ -198,9 +198,9 @@ impl Message {
 
     /// `Fill`: a cache grants the block of an address to another, with its words.
     pub fn fill(from: u8, to: u8, way: u8, state: Coh, addr: Addr, words: [u64; 8]) -> Message
-        requires sender { from < 8 }
-        requires receiver { to < 8 }
-        requires way { way < 8 }
+        requires sender { from < MOST_CACHES }
+        requires receiver { to < MOST_CACHES }
+        requires way { way < MOST_WAYS }
         requires state_fits { holds Received state ≡ true }
         ensures { result ≡ Fill from to way state (block_start addr) words }
     {
@@ -218,7 +218,7 @@ impl Message {
 
     /// `InvAck`: a cache has dropped its copy of the block of an address.
     pub fn inv_ack(from: u8, addr: Addr) -> Message
-        requires { from < 8 }
+        requires { from < MOST_CACHES }
         ensures { result ≡ InvAck from ENGINE (block_start addr) }
     {
         Message::of(Row::InvAck {
@@ -230,7 +230,7 @@ impl Message {
 
     /// `CohAck`: a cache has got what it asked for: its request about the block of an address is settled.
     pub fn coh_ack(from: u8, addr: Addr) -> Message
-        requires { from < 8 }
+        requires { from < MOST_CACHES }
         ensures { result ≡ CohAck from ENGINE (block_start addr) }
     {
         Message::of(Row::CohAck {
@@ -242,7 +242,7 @@ impl Message {
 
     /// `Wb`: a cache answers `StWb` with the words of a dirty copy.
     pub fn wb(from: u8, addr: Addr, words: [u64; 8]) -> Message
-        requires { from < 8 }
+        requires { from < MOST_CACHES }
         ensures { result ≡ Wb from ENGINE (block_start addr) words }
     {
         let fits = are_words(&words);
@@ -257,7 +257,7 @@ impl Message {
 
     /// `NullWb`: a cache answers `StWb` where its copy was clean.
     pub fn null_wb(from: u8, addr: Addr) -> Message
-        requires { from < 8 }
+        requires { from < MOST_CACHES }
         ensures { result ≡ NullWb from ENGINE (block_start addr) }
     {
         Message::of(Row::NullWb {

@@ -4,7 +4,7 @@ ghost use Rattle.bk_msg.specs.Table.{holds, admits, fault_at, unit_bytes, load_w
 use crate::fault::MsgFault;
 use crate::kind::Kind;
 use crate::row::{ENGINE, MEMORY};
-use bk_base::Coh;
+use bk_base::{Coh, MOST_CACHES, MOST_WAYS};
 
 /// Sets of states that a message may carry.
 #[derive(Clone, Copy)]
@@ -45,8 +45,10 @@ pub enum Load {
 pub enum Rule {
     /// The kind has no field there: 0 alone.
     Reserved,
-    /// The number of a cache or of a way, 0 to 7.
-    Number,
+    /// The number of a cache, 0 to 15.
+    Cache,
+    /// The number of a way, 0 to 7.
+    Way,
     /// One number alone.
     Only(u8),
     /// The code of a state of the set.
@@ -125,7 +127,8 @@ impl Rule {
     {
         match self {
             Rule::Reserved => byte == 0,
-            Rule::Number => byte < 8,
+            Rule::Cache => byte < MOST_CACHES,
+            Rule::Way => byte < MOST_WAYS,
             Rule::Only(number) => byte == number,
             Rule::State(states) => match Coh::from_code(byte) {
                 Some(state) => states.holds(state),
@@ -169,14 +172,14 @@ fn between(from: Rule, to: Rule, address: Unit) -> Layout
 fn to_engine(address: Unit) -> Layout
     ensures { result ≡ to_engine address }
 {
-    between(Rule::Number, Rule::Only(ENGINE), address)
+    between(Rule::Cache, Rule::Only(ENGINE), address)
 }
 
 /// From the engine to a cache.
 fn to_cache(address: Unit) -> Layout
     ensures { result ≡ to_cache address }
 {
-    between(Rule::Only(ENGINE), Rule::Number, address)
+    between(Rule::Only(ENGINE), Rule::Cache, address)
 }
 
 /// From the engine to the memory.
@@ -192,11 +195,11 @@ pub fn layout_of(kind: Kind) -> Layout
 {
     match kind {
         Kind::Rd => Layout {
-            way: Rule::Number,
+            way: Rule::Way,
             ..to_engine(Unit::Block)
         },
         Kind::Wr => Layout {
-            way: Rule::Number,
+            way: Rule::Way,
             ..to_engine(Unit::Block)
         },
         Kind::UcRd => to_engine(Unit::Word),
@@ -205,7 +208,7 @@ pub fn layout_of(kind: Kind) -> Layout
             ..to_engine(Unit::Word)
         },
         Kind::Evict => Layout {
-            way: Rule::Number,
+            way: Rule::Way,
             ..to_engine(Unit::Block)
         },
         Kind::Inv => to_cache(Unit::Block),
@@ -215,19 +218,19 @@ pub fn layout_of(kind: Kind) -> Layout
         },
         Kind::StTr => Layout {
             state: Rule::State(States::Left),
-            peer: Rule::Number,
-            peer_way: Rule::Number,
+            peer: Rule::Cache,
+            peer_way: Rule::Way,
             peer_state: Rule::State(States::Received),
             ..to_cache(Unit::Block)
         },
         Kind::Blk => Layout {
-            way: Rule::Number,
+            way: Rule::Way,
             state: Rule::State(States::Granted),
             load: Load::Block,
             ..to_cache(Unit::Block)
         },
         Kind::StWake => Layout {
-            way: Rule::Number,
+            way: Rule::Way,
             state: Rule::State(States::Modified),
             ..to_cache(Unit::Block)
         },
@@ -238,10 +241,10 @@ pub fn layout_of(kind: Kind) -> Layout
         Kind::UcDone => to_cache(Unit::Word),
         Kind::Done => to_cache(Unit::Block),
         Kind::Fill => Layout {
-            way: Rule::Number,
+            way: Rule::Way,
             state: Rule::State(States::Received),
             load: Load::Block,
-            ..between(Rule::Number, Rule::Number, Unit::Block)
+            ..between(Rule::Cache, Rule::Cache, Unit::Block)
         },
         Kind::InvAck => to_engine(Unit::Block),
         Kind::CohAck => to_engine(Unit::Block),
