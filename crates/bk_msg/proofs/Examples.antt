@@ -39,8 +39,8 @@ record Spellings : Type 0 where
   -- a state, and a peer with its way and state
   peer : spelling (StTr 0xf0 2 O 3 4 S 0x40) ≡ 0x13 ∷ 0xf0 ∷ 2 ∷ 0 ∷ 7 ∷ 3 ∷ 4 ∷ 1 ∷ 0x40 ∷ replicate 7 0
   -- a way, a state and eight words, at the greatest block
-  granted : spelling (Blk 0xf0 7 6 E 0xffffffffc0 words)
-      ≡ (0x14 ∷ 0xf0 ∷ 7 ∷ 6 ∷ 2 ∷ 0 ∷ 0 ∷ 0 ∷ 0xc0 ∷ 0xff ∷ 0xff ∷ 0xff ∷ 0xff ∷ 0 ∷ 0 ∷ 0 ∷ [])
+  granted : spelling (Blk 0xf0 15 6 E 0xffffffffc0 words)
+      ≡ (0x14 ∷ 0xf0 ∷ 15 ∷ 6 ∷ 2 ∷ 0 ∷ 0 ∷ 0 ∷ 0xc0 ∷ 0xff ∷ 0xff ∷ 0xff ∷ 0xff ∷ 0 ∷ 0 ∷ 0 ∷ [])
       ++ words_bytes
   from_a_cache : spelling (Fill 5 6 7 F 0x40 words) ≡ (0x21 ∷ 5 ∷ 6 ∷ 7 ∷ 3 ∷ 0 ∷ 0 ∷ 0 ∷ 0x40 ∷ replicate 7 0)
       ++ words_bytes
@@ -65,7 +65,7 @@ record Readings : Type 0 where
   -- what follows isn't looked at
   first : decode (rd_bytes ++ uc_wr_bytes) ≡ Ok (rd, 16)
   second : decode uc_wr_bytes ≡ Ok (uc_wr, 24)
-  granted : decode (spelling (Blk 0xf0 7 6 E 0xffffffffc0 words) ++ 0x99 ∷ []) ≡ Ok (Blk 0xf0 7 6 E 0xffffffffc0 words, 80)
+  granted : decode (spelling (Blk 0xf0 15 6 E 0xffffffffc0 words) ++ 0x99 ∷ []) ≡ Ok (Blk 0xf0 15 6 E 0xffffffffc0 words, 80)
 
 readings : Readings
 unfolding decode
@@ -77,8 +77,8 @@ record Faults : Type 0 where
   last_byte : decode (take 15 rd_bytes) ≡ Err (faults.Short 16)
   no_word : decode (take 16 uc_wr_bytes) ≡ Err (faults.Short 24)
   kind : decode (changed rd_bytes 0 0x99) ≡ Err (faults.Kind 0x99)
-  -- eight caches, one engine, eight ways
-  from : decode (changed rd_bytes 1 8) ≡ Err (faults.Field 1)
+  -- sixteen caches, one engine, eight ways
+  from : decode (changed rd_bytes 1 16) ≡ Err (faults.Field 1)
   to : decode (changed rd_bytes 2 0xf1) ≡ Err (faults.Field 2)
   way : decode (changed rd_bytes 3 8) ≡ Err (faults.Field 3)
   -- Rd has no state
@@ -94,7 +94,7 @@ record Faults : Type 0 where
   state : decode (changed (spelling (StWb 0xf0 2 S 0x40)) 4 3) ≡ Err (faults.Field 4)
   no_state : decode (changed (spelling (StWb 0xf0 2 S 0x40)) 4 4) ≡ Err (faults.Field 4)
   left : decode (changed (spelling (StTr 0xf0 2 O 3 4 S 0x40)) 4 2) ≡ Err (faults.Field 4)
-  peer : decode (changed (spelling (StTr 0xf0 2 O 3 4 S 0x40)) 5 8) ≡ Err (faults.Field 5)
+  peer : decode (changed (spelling (StTr 0xf0 2 O 3 4 S 0x40)) 5 16) ≡ Err (faults.Field 5)
   peer_way : decode (changed (spelling (StTr 0xf0 2 O 3 4 S 0x40)) 6 8) ≡ Err (faults.Field 6)
   peer_state : decode (changed (spelling (StTr 0xf0 2 O 3 4 S 0x40)) 7 0) ≡ Err (faults.Field 7)
   granted : decode (changed (spelling (StWake 0xf0 2 0 M 0x40)) 4 2) ≡ Err (faults.Field 4)

@@ -67,7 +67,7 @@ fn ranges(rt: HostRuntime) -> Result<(), Fail> {
     for state in [Coh::S, Coh::E, Coh::F, Coh::M] {
         let row = Row::Blk {
             from: ENGINE,
-            to: 7,
+            to: 15,
             way: 7,
             state,
             addr: at(0xff_ffff_ffc0)?,
@@ -81,7 +81,7 @@ fn ranges(rt: HostRuntime) -> Result<(), Fail> {
     }
     let addr = at(0x48)?;
     let off = [
-        // A state that StWb has not, a ninth cache, the memory for the engine, a word's address.
+        // A state that StWb has not, a seventeenth cache, the memory for the engine, a word's address.
         Row::StWb {
             from: ENGINE,
             to: 0,
@@ -90,7 +90,7 @@ fn ranges(rt: HostRuntime) -> Result<(), Fail> {
         },
         Row::Inv {
             from: ENGINE,
-            to: 8,
+            to: 16,
             addr: at(0)?,
         },
         Row::CohAck {
@@ -125,7 +125,7 @@ fn faults(rt: HostRuntime) {
     let changed = [
         (0, 0x99, MsgFault::Kind(0x99)),
         (0, 0x00, MsgFault::Kind(0)),
-        (1, 8, MsgFault::Field(1)),
+        (1, 16, MsgFault::Field(1)),
         (2, 0, MsgFault::Field(2)),
         (3, 8, MsgFault::Field(3)),
         (4, 1, MsgFault::Reserved(4)),
