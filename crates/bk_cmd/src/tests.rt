@@ -144,7 +144,7 @@ fn faults_of_a_trace(rt: HostRuntime) -> Result<(), Fail> {
     // A trace, and the line, the column and the kind of its fault.
     let cases = [
         ("config 1 64 8\n0 S 0x10000000000 1", 2, 5, 44),
-        ("config 9 4 2", 1, 8, 41),
+        ("config 17 4 2", 1, 8, 41),
         ("config 2 4 2\n2 UL 0x40", 2, 1, 42),
         ("config 2 4 2\n0 UL 0x40 7", 2, 11, 46),
     ];
@@ -217,7 +217,7 @@ fn words_that_are_no_command(rt: HostRuntime) -> Result<(), Fail> {
         &["gen", "00000000007", "2", "4", "2", "1"][..],
         &["gen", "0x7", "2", "4", "2", "1"][..],
         &["gen", "7", "2", "3", "2", "1"][..],
-        &["gen", "7", "9", "4", "2", "1"][..],
+        &["gen", "7", "17", "4", "2", "1"][..],
         &["gen", "7", "258", "4", "2", "1"][..],
         &["gen", "7", "2", "4", "2", "10001"][..],
         &["gen", "7", "2", "4", "2", ""][..],

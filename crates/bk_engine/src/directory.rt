@@ -13,7 +13,7 @@ use crate::parts::{Core, Head, Held};
 use crate::reads::{query_of, summary_for};
 use crate::sends::is_invalidated;
 use crate::summed::unshared;
-use bk_base::{Coh, Config, group_of, tag_at};
+use bk_base::{Coh, Config, MOST_CACHES, group_of, tag_at};
 use bk_dir::{Directory, Entry, Summary};
 use bk_isa::Form;
 use bk_isa::operand::{WHOSE_OWN, WHOSE_OWNER, WITH_MARK, WITH_OWNER};
@@ -57,7 +57,7 @@ fn invalidate(
     summary: &Summary,
 )
     requires config { directory.old.config ≡ config }
-    requires few { config.caches ≤ 8 }
+    requires few { config.caches ≤ MOST_CACHES }
     requires others { summary.now.others < 2 ^ config.caches }
     requires owner { IfSome summary.now.owner (λ at. at.0 < config.caches) }
     ensures state { contents_of directory.new ≡ with_invalid_block config (contents_of directory.old) held.now with_owner summary.now }
@@ -123,7 +123,7 @@ fn wipe_others(
     with_owner: bool,
 )
     requires config { directory.old.config ≡ config }
-    requires few { config.caches ≤ 8 }
+    requires few { config.caches ≤ MOST_CACHES }
     requires way { IsWay config held.now.source held.now.way }
     requires summed { Tells config (contents_of directory.old) held.now summed.old }
     ensures state { let d = contents_of directory.old in
@@ -183,7 +183,7 @@ fn change_for(
     form: Form,
 )
     requires config { directory.old.config ≡ config }
-    requires few { config.caches ≤ 8 }
+    requires few { config.caches ≤ MOST_CACHES }
     requires way { IsWay config held.now.source held.now.way }
     requires summed { Tells config (contents_of directory.old) held.now summed.old }
     ensures state { contents_of directory.new ≡ directory_for config (contents_of directory.old) held.now form }

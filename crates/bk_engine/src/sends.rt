@@ -11,7 +11,7 @@ ghost use Rattle.bk_msg.specs.declared.table.States.TheVariants.{Lowered, Left, 
 use crate::parts::{Core, DirtyBlock, Held};
 use crate::reads::summary_for;
 use arrayvec::ArrayVec;
-use bk_base::{Addr, Coh, Config, group_of, word_of};
+use bk_base::{Addr, Coh, Config, MOST_CACHES, MOST_WAYS, group_of, word_of};
 use bk_dir::{Directory, Summary};
 use bk_isa::Form;
 use bk_isa::operand::{WHOSE_OWN, WHOSE_OWNER, WITH_OWNER};
@@ -32,7 +32,7 @@ fn is_owner(at: Option<(u8, u8)>, cache: u8) -> bool
 
 /// Whether a cache is sent an invalidation: one of the others, and the owner where it is asked for.
 pub(crate) fn is_invalidated(with_owner: bool, summary: &Summary, cache: u8) -> bool
-    requires { cache < 8 }
+    requires { cache < MOST_CACHES }
     ensures { result ≡ is_invalidated with_owner summary.now cache }
 {
     let is_other = (summary.others >> cache) % 2 == 1;
@@ -41,7 +41,7 @@ pub(crate) fn is_invalidated(with_owner: bool, summary: &Summary, cache: u8) -> 
 
 /// An invalidation to each cache that is sent one, by cache.
 fn invs(config: Config, held: &Held, with_owner: bool, summary: &Summary, sent: &mut Sent)
-    requires few { config.caches ≤ 8 }
+    requires few { config.caches ≤ MOST_CACHES }
     requires empty { sent.old.items ≡ [] }
     ensures { sent.new.items ≡ invs config held.now with_owner summary.now }
 {
@@ -53,7 +53,7 @@ fn invs(config: Config, held: &Held, with_owner: bool, summary: &Summary, sent: 
 }
 
 fn flush_to(at: Option<(u8, u8)>, state: Coh, addr: Addr, sent: &mut Sent)
-    requires at { IfSome at (λ a. a.0 < 8) }
+    requires at { IfSome at (λ a. a.0 < MOST_CACHES) }
     requires state { holds Lowered state ≡ true }
     requires empty { sent.old.items ≡ [] }
     ensures { sent.new.items ≡ flush_to at state addr }
@@ -87,7 +87,7 @@ fn flushes(
 )
     requires config { directory.now.config ≡ config }
     requires summed { Tells config (contents_of directory.now) held.now summed.now }
-    requires few { config.caches ≤ 8 }
+    requires few { config.caches ≤ MOST_CACHES }
     requires way { IsWay config held.now.source held.now.way }
     requires state { holds Lowered state ≡ true }
     requires empty { sent.old.items ≡ [] }
@@ -107,9 +107,9 @@ fn flushes(
 }
 
 fn transfer_to(held: &Held, at: Option<(u8, u8)>, owner_state: Coh, state: Coh, sent: &mut Sent)
-    requires at { IfSome at (λ a. a.0 < 8) }
-    requires peer { held.now.source < 8 }
-    requires way { held.now.way < 8 }
+    requires at { IfSome at (λ a. a.0 < MOST_CACHES) }
+    requires peer { held.now.source < MOST_CACHES }
+    requires way { held.now.way < MOST_WAYS }
     requires owner_state { holds Left owner_state ≡ true }
     requires state { holds Received state ≡ true }
     requires empty { sent.old.items ≡ [] }
@@ -129,8 +129,8 @@ fn transfer_to(held: &Held, at: Option<(u8, u8)>, owner_state: Coh, state: Coh, 
 }
 
 fn grants(held: &Held, state: Coh, got: &Option<[u64; 8]>, sent: &mut Sent)
-    requires source { held.now.source < 8 }
-    requires way { held.now.way < 8 }
+    requires source { held.now.source < MOST_CACHES }
+    requires way { held.now.way < MOST_WAYS }
     requires state { holds Granted state ≡ true }
     requires empty { sent.old.items ≡ [] }
     ensures { sent.new.items ≡ grants held.now state got.now }
@@ -142,7 +142,7 @@ fn grants(held: &Held, state: Coh, got: &Option<[u64; 8]>, sent: &mut Sent)
 }
 
 fn answers_word(held: &Held, got: &Option<[u64; 8]>, sent: &mut Sent)
-    requires source { held.now.source < 8 }
+    requires source { held.now.source < MOST_CACHES }
     requires empty { sent.old.items ≡ [] }
     ensures { sent.new.items ≡ answers_word held.now got.now }
 {
@@ -177,7 +177,7 @@ fn sends_for(
 )
     requires config { directory.now.config ≡ config }
     requires summed { Tells config (contents_of directory.now) held.now summed.now }
-    requires few { config.caches ≤ 8 }
+    requires few { config.caches ≤ MOST_CACHES }
     requires few_ways { config.ways ≤ 8 }
     requires way { IsWay config held.now.source held.now.way }
     requires states { HasStates form }

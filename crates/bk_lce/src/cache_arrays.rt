@@ -1,8 +1,9 @@
 ghost use Rattle.std.specs.Prelude.{◌≡◌, ◌*◌, ◌<◌, ◌≤◌, vec_len};
+ghost use Rattle.bk_base.specs.declared.config.TheConstants.{MOST_CACHES, MOST_WAYS};
 ghost use Rattle.bk_lce.specs.Lists.{HasWay, AreListed};
 
 use crate::line::{InProgress, Line};
-use bk_base::Config;
+use bk_base::{Config, MOST_CACHES, MOST_WAYS};
 
 /// All of a cache but its policy: its lines, their recency, and the operation that it has begun. Contracts see what it
 /// holds, as `state_of` tells, with its configuration and its number.
@@ -16,9 +17,9 @@ pub struct CacheArrays {
     /// By set: its ways, most recently used first. The way at place i stands in bits 3 * i to 3 * i + 2; all other bits are 0.
     pub(crate) recency: Vec<u32>,
     pub(crate) busy: Option<InProgress>,
-    ghost few_caches: { config.caches ≤ 8 },
+    ghost few_caches: { config.caches ≤ MOST_CACHES },
     ghost some_ways: { 1 ≤ config.ways },
-    ghost few_ways: { config.ways ≤ 8 },
+    ghost few_ways: { config.ways ≤ MOST_WAYS },
     ghost numbered: { number < config.caches },
     ghost lines_each: { vec_len lines ≡ config.sets * config.ways },
     ghost recency_each: { vec_len recency ≡ config.sets },

@@ -5,7 +5,7 @@ ghost use Rattle.bk_lce.specs.CacheArrays.{state_of};
 
 use crate::cache_arrays::CacheArrays;
 use crate::line::Line;
-use bk_base::{Coh, Config};
+use bk_base::{Coh, Config, MOST_CACHES, MOST_WAYS};
 use std::alloc::{AllocError, Global};
 
 /// A line that was never written.
@@ -49,8 +49,8 @@ impl CacheArrays {
         ensures config { IfOk result (λ a. a.config ≡ config) }
         ensures number { IfOk result (λ a. a.number ≡ number) }
     {
-        prove!(config.caches <= 8);
-        prove!(1 <= config.ways && config.ways <= 8);
+        prove!(config.caches <= MOST_CACHES);
+        prove!(1 <= config.ways && config.ways <= MOST_WAYS);
         let lines = opening_lines(alloc, config.sets, config.ways)?;
         let recency = opening_recency(alloc, config.sets, config.ways)?;
         Ok(CacheArrays {
