@@ -8,7 +8,7 @@ ghost use Rattle.bk_engine.specs.Changes.{wipes_owner, unshared};
 use crate::parts::{Core, ROW_READ};
 use crate::reads::summary_for;
 use crate::sends::is_invalidated;
-use bk_base::Config;
+use bk_base::{Config, MOST_CACHES};
 use bk_dir::{Directory, Summary};
 use bk_isa::Form;
 use bk_isa::operand::{FIELD_OTHERS, FIELD_OWN, FIELD_OWNER, FIELD_VICTIM};
@@ -59,7 +59,7 @@ pub(crate) fn sum_up(
 
 /// Whether the owner is among the caches that are sent an invalidation.
 fn wipes_owner(with_owner: bool, summary: &Summary) -> bool
-    requires { IfSome summary.now.owner (λ at. at.0 < 8) }
+    requires { IfSome summary.now.owner (λ at. at.0 < MOST_CACHES) }
     ensures { result ≡ wipes_owner with_owner summary.now summary.now.owner }
 {
     match summary.owner {
@@ -71,7 +71,7 @@ fn wipes_owner(with_owner: bool, summary: &Summary) -> bool
 /// What is kept of the directory once a block is invalidated: no other cache has an entry `S` of it then. Where the owner's entries
 /// are gone too, who answers for the block next isn't known.
 pub(crate) fn unshared(with_owner: bool, summary: Summary) -> Option<Summary>
-    requires { IfSome summary.owner (λ at. at.0 < 8) }
+    requires { IfSome summary.owner (λ at. at.0 < MOST_CACHES) }
     ensures { result ≡ unshared with_owner summary }
 {
     if wipes_owner(with_owner, &summary) {

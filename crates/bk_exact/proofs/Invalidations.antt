@@ -91,7 +91,7 @@ module _ (k : Shape) (then_state : State) (told : Told) (tied : Tied k then_stat
       lem e.acks (length x.waiting) (length (sends k then_state.engine (forms.Inv a))) (length to) (length (x.waiting ++ to)) sv.acks sent
       (length-append x.waiting to) ((under_way k _ later).acks s y refl v.is_granted) (few_caches k profile)
     where
-      lem : (p q r u v : ℕ) → p ≡ q → r ≡ u → v ≡ q + u → v < k.caches → k.caches ≤ 8 → (p + r) % 2 ^ 64 ≡ v
+      lem : (p q r u v : ℕ) → p ≡ q → r ≡ u → v ≡ q + u → v < k.caches → k.caches ≤ 16 → (p + r) % 2 ^ 64 ≡ v
       lem p q r u v i j z l f = omega (arith, i, j, z, l, f)
 
   pub permits-inv : Moves k then_state told (forms.Inv a)
