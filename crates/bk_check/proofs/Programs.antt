@@ -54,7 +54,7 @@ ei_forms =
     ∷ Bi 9 ∷ Stwb 0 I ∷ Bi 9 ∷ Stwb 0 S ∷ Bi 9 ∷ Inv 0 ∷ Bi 19 ∷ []
 
 abbrev pub ei : Parts
-ei = record { instrs = ei_forms; knows = ei_lines }
+ei = record { version = 1; limit = 8; instrs = ei_forms; knows = ei_lines }
 
 ei_size : length ei.instrs ≡ 84
 ei_size = refl
@@ -98,7 +98,7 @@ msi_forms =
     ∷ Inv 0 ∷ Bi 19 ∷ []
 
 abbrev pub msi : Parts
-msi = record { instrs = msi_forms; knows = msi_lines }
+msi = record { version = 1; limit = 8; instrs = msi_forms; knows = msi_lines }
 
 msi_size : length msi.instrs ≡ 92
 msi_size = refl
@@ -144,7 +144,7 @@ mesi_forms =
     ∷ Inv 0 ∷ Bi 19 ∷ []
 
 abbrev pub mesi : Parts
-mesi = record { instrs = mesi_forms; knows = mesi_lines }
+mesi = record { version = 1; limit = 8; instrs = mesi_forms; knows = mesi_lines }
 
 mesi_size : length mesi.instrs ≡ 97
 mesi_size = refl
@@ -193,7 +193,7 @@ moesif_forms =
     ∷ Inv 0 ∷ Bi 19 ∷ []
 
 abbrev pub moesif : Parts
-moesif = record { instrs = moesif_forms; knows = moesif_lines }
+moesif = record { version = 1; limit = 8; instrs = moesif_forms; knows = moesif_lines }
 
 moesif_size : length moesif.instrs ≡ 108
 moesif_size = refl
@@ -216,10 +216,10 @@ uc_lines =
     ∷ (15, sets_of 0xff08225fffe48814) ∷ []
 
 abbrev uc : Parts
-uc = record { instrs = uc_forms; knows = [] }
+uc = record { version = 1; limit = 8; instrs = uc_forms; knows = [] }
 
 abbrev uck : Parts
-uck = record { instrs = uc_forms; knows = uc_lines }
+uck = record { version = 1; limit = 8; instrs = uc_forms; knows = uc_lines }
 
 -- without know lines there is no mask at the start
 uc_refused : IsRefused uc 0 1

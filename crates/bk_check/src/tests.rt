@@ -15,7 +15,7 @@ fn verdict(
     for form in forms {
         instrs.push(Instr::make(*form).ok_or("operands in range")?)?;
     }
-    let image = Image::make(instrs, lines.to_vec(alloc)?).ok_or("an image")?;
+    let image = Image::make(1, 8, instrs, lines.to_vec(alloc)?).ok_or("an image")?;
     Ok(check(&image))
 }
 

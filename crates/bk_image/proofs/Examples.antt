@@ -4,8 +4,8 @@ use Rattle.bk_isa.specs.declared.form.Form.TheVariants.{Nop}
 use Rattle.bk_know.specs.Sets.{idle_base, held_base}
 use Rattle.bk_image.specs.Images.{Parts}
 use Rattle.bk_image.specs.Faults.{bad}
-use Rattle.bk_image.specs.declared.fault.Kind.TheVariants.{Magic, Version, ReservedByte, Count, TooMany, Opcode, WordField, WordReserved, KnowLine, NotAscending, Short, Trailing}
-use Rattle.bk_image.specs.Reading.{count_at, know_count_at, counts_at, header_at, word_at, words_at, mask_at, line_at, lines_at, image_at}
+use Rattle.bk_image.specs.declared.fault.Kind.TheVariants.{Magic, Version, ReservedByte, Count, TooMany, Opcode, WordField, WordReserved, KnowLine, NotAscending, Short, Trailing, Limit}
+use Rattle.bk_image.specs.Reading.{limit_at, count_at, know_count_at, heading_at, header_at, word_at, words_at, mask_at, line_at, lines_at, image_at}
 use Rattle.bk_image.specs.Spelling.{spelling}
 
 -- an image of one word, whose eight bytes are given
@@ -13,7 +13,7 @@ abbrev with_word : List ℕ → List ℕ
 with_word word = 66 ∷ 75 ∷ 85 ∷ 67 ∷ 1 ∷ 0 ∷ 0 ∷ 0 ∷ 1 ∷ 0 ∷ 0 ∷ 0 ∷ 0 ∷ 0 ∷ 0 ∷ 0 ∷ word
 
 abbrev one_nop : Parts
-one_nop = record { instrs = Nop ∷ []; knows = [] }
+one_nop = record { version = 1; limit = 8; instrs = Nop ∷ []; knows = [] }
 
 abbrev nop : List ℕ
 nop = with_word (0 ∷ 0 ∷ 0 ∷ 0 ∷ 0 ∷ 0 ∷ 0 ∷ 0 ∷ [])
@@ -23,7 +23,7 @@ abbrev changed : ℕ → ℕ → List ℕ
 changed at byte = take at nop ++ byte ∷ drop (at + 1) nop
 
 nop_is_read : image_at nop ≡ Ok one_nop
-unfolding image_at header_at counts_at count_at know_count_at word_at words_at mask_at line_at lines_at
+unfolding image_at header_at heading_at limit_at count_at know_count_at word_at words_at mask_at line_at lines_at
 nop_is_read = refl
 
 nop_is_spelled : spelling one_nop ≡ nop
@@ -32,7 +32,9 @@ nop_is_spelled = refl
 -- the header
 record HeaderFaults : Type 0 where
   other_magic : image_at (changed 3 68) ≡ Err (bad 0 Magic)
-  other_version : image_at (changed 4 2) ≡ Err (bad 4 Version)
+  no_version : image_at (changed 4 0) ≡ Err (bad 4 Version)
+  third_version : image_at (changed 4 3) ≡ Err (bad 4 Version)
+  limit_of_version_1 : image_at (changed 5 8) ≡ Err (bad 5 ReservedByte)
   second_reserved_byte : image_at (changed 6 1) ≡ Err (bad 6 ReservedByte)
   no_instruction : image_at (changed 8 0) ≡ Err (bad 8 Count)
   -- 257 instructions
@@ -41,16 +43,38 @@ record HeaderFaults : Type 0 where
   know_line_missing : image_at (changed 12 1) ≡ Err (bad 24 Short)
 
 header_faults : HeaderFaults
-unfolding image_at header_at counts_at count_at know_count_at word_at words_at mask_at line_at lines_at
+unfolding image_at header_at heading_at limit_at count_at know_count_at word_at words_at mask_at line_at lines_at
 header_faults = record {
   other_magic = refl;
-  other_version = refl;
+  no_version = refl;
+  third_version = refl;
+  limit_of_version_1 = refl;
   second_reserved_byte = refl;
   no_instruction = refl;
   too_many = refl;
   more_know_lines = refl;
   know_line_missing = refl;
 }
+
+-- the same instruction in an image of version 2
+abbrev limited : ℕ → List ℕ
+limited limit = 66 ∷ 75 ∷ 85 ∷ 67 ∷ 2 ∷ limit ∷ drop 6 nop
+
+abbrev limited_nop : ℕ → Parts
+limited_nop limit = record { version = 2; limit = limit; instrs = Nop ∷ []; knows = [] }
+
+record Limits : Type 0 where
+  one : image_at (limited 1) ≡ Ok (limited_nop 1)
+  sixteen : image_at (limited 16) ≡ Ok (limited_nop 16)
+  spelled : spelling (limited_nop 16) ≡ limited 16
+  none : image_at (limited 0) ≡ Err (bad 5 Limit)
+  seventeen : image_at (limited 17) ≡ Err (bad 5 Limit)
+  reserved_byte : image_at (take 6 (limited 16) ++ 1 ∷ drop 7 (limited 16)) ≡ Err (bad 6 ReservedByte)
+  short : image_at (take 5 (limited 16)) ≡ Err (bad 5 Short)
+
+limits : Limits
+unfolding image_at header_at heading_at limit_at count_at know_count_at word_at words_at mask_at line_at lines_at
+limits = record { one = refl; sixteen = refl; spelled = refl; none = refl; seventeen = refl; reserved_byte = refl; short = refl }
 
 -- the word at byte 16, its opcode at byte 23
 record WordFaults : Type 0 where
@@ -70,7 +94,7 @@ record WordFaults : Type 0 where
   no_place : image_at (with_word (0 ∷ 1 ∷ 0 ∷ 0 ∷ 0 ∷ 0 ∷ 0 ∷ 32 ∷ [])) ≡ Err (bad 16 WordField)
 
 word_faults : WordFaults
-unfolding image_at header_at counts_at count_at know_count_at word_at words_at mask_at line_at lines_at
+unfolding image_at header_at heading_at limit_at count_at know_count_at word_at words_at mask_at line_at lines_at
 word_faults = record {
   no_opcode = refl;
   reserved_a = refl;
@@ -90,14 +114,14 @@ record EndFaults : Type 0 where
   one_byte_more : image_at (nop ++ 0 ∷ []) ≡ Err (bad 24 Trailing)
 
 end_faults : EndFaults
-unfolding image_at header_at counts_at count_at know_count_at word_at words_at mask_at line_at lines_at
+unfolding image_at header_at heading_at limit_at count_at know_count_at word_at words_at mask_at line_at lines_at
 end_faults = record { empty = refl; short_word = refl; one_byte_more = refl }
 
 -- ---- know lines
 
 -- two instructions and two know lines, at places 0 and 1: what is known of an idle engine, and of one that holds a request
 abbrev two_nops : Parts
-two_nops = record { instrs = Nop ∷ Nop ∷ []; knows = (0, idle_base) ∷ (1, held_base) ∷ [] }
+two_nops = record { version = 1; limit = 8; instrs = Nop ∷ Nop ∷ []; knows = (0, idle_base) ∷ (1, held_base) ∷ [] }
 
 abbrev lined : List ℕ
 lined = spelling two_nops
@@ -113,7 +137,7 @@ lined_is_spelled : drop 8 lined ≡ 2 ∷ 0 ∷ 0 ∷ 0 ∷ 2 ∷ 0 ∷ 0 ∷ 0 
 lined_is_spelled = refl
 
 lined_is_read : image_at lined ≡ Ok two_nops
-unfolding image_at header_at counts_at count_at know_count_at word_at words_at mask_at line_at lines_at
+unfolding image_at header_at heading_at limit_at count_at know_count_at word_at words_at mask_at line_at lines_at
 lined_is_read = refl
 
 record LineFaults : Type 0 where
@@ -129,7 +153,7 @@ record LineFaults : Type 0 where
   one_byte_more : image_at (lined ++ 0 ∷ []) ≡ Err (bad 56 Trailing)
 
 line_faults : LineFaults
-unfolding image_at header_at counts_at count_at know_count_at word_at words_at mask_at line_at lines_at
+unfolding image_at header_at heading_at limit_at count_at know_count_at word_at words_at mask_at line_at lines_at
 line_faults = record {
   no_place = refl;
   empty_field = refl;

@@ -1,7 +1,7 @@
 -- A number that is read is the number that was written, and what was written is read again.
-use Rattle.std.proofs.Common.{◌≡◌, ℕ, suc, ◌+◌, ◌-◌, ◌^◌, ◌<◌, ◌≤◌, Bool, true, false, cond, ltb, eqb, List, [], ◌∷◌, ◌++◌, length, get_or, take, drop, Result, Ok, Err, refl, sym, ap, ◌∙◌, append_assoc, arith, inl, inr}
+use Rattle.std.proofs.Common.{◌≡◌, ℕ, suc, ◌+◌, ◌-◌, ◌^◌, ◌<◌, ◌≤◌, Bool, true, false, ◌&&◌, cond, ltb, leb, List, [], ◌∷◌, ◌++◌, length, get_or, take, drop, Result, Ok, Err, refl, sym, ap, subst, ◌∙◌, append_assoc, arith, inl, inr}
 use Rattle.std.specs.Int.{Width, w32, w64, byte_len, from_le_bytes, to_le_bytes}
-use Rattle.std.proofs.lemmas.Bool.{cases_lt, eqb-true, ltb-false, le-ltb}
+use Rattle.std.proofs.lemmas.Bool.{and_parts, cases_lt, leb-true, le-leb, ltb-false, le-ltb}
 use Rattle.std.proofs.lemmas.List.{take_at, drop_at, take-append-drop, length-append, length-take, get_or-drop, get_or-take, get_or_past}
 use Rattle.std.proofs.lemmas.Nat.{le_bytes_4, le_bytes_8, from_le_bytes-to_le_bytes_4, from_le_bytes-to_le_bytes_8}
 use Rattle.bk_image.specs.declared.fault.Kind.{Kind}
@@ -115,16 +115,38 @@ number_again {w = w} wide total n rest lt =
     le-ltb _ _ (omega (arith, length-append (to_le_bytes w n) rest)) in
     rw (long, take_at (to_le_bytes w n) rest (byte_len w) len, drop_at (to_le_bytes w n) rest (byte_len w) len, wide.again n lt) refl
 
--- ---- a given byte
+-- ---- a byte in a range
 
 IsBytes-rest : (b : ℕ) (bytes : List ℕ) → IsBytes (b ∷ bytes) → IsBytes bytes
 IsBytes-rest b bytes h i = h (suc i)
 
-pub byte_takes : (want : ℕ) (kind : Kind) (total : ℕ) (bytes : List ℕ) (x : ℕ × List ℕ) → IsBytes bytes
-    → byte_at want kind total bytes ≡ Ok x → Takes bytes (want ∷ []) x.1
-byte_takes want kind total [] x fits e = absurd cc
-byte_takes want kind total (b ∷ bytes) x fits e =
-    let h = holds (eqb b want) (bad (total - length (b ∷ bytes)) kind) (Ok (b, bytes)) x e in
-    let same = ok_is _ _ h.1 in
-    let rest-is : bytes ≡ x.1 = ap (λ (p : ℕ × List ℕ). p.1) same in
-    record { parts = rw (eqb-true _ _ h.0, rest-is) refl; rest_fits = rw (← rest-is) (IsBytes-rest b bytes fits) }
+-- a byte that was taken, and its range
+pub record TakesByte (least greatest : ℕ) (bytes : List ℕ) (b : ℕ) (rest : List ℕ) : Type 0 where
+  pub takes : Takes bytes (b ∷ []) rest
+  pub some : least ≤ b
+  pub few : b ≤ greatest
+
+pub byte_takes : (least greatest : ℕ) (kind : Kind) (total : ℕ) (bytes : List ℕ) (x : ℕ × List ℕ) → IsBytes bytes
+    → byte_at least greatest kind total bytes ≡ Ok x → TakesByte least greatest bytes x.0 x.1
+byte_takes least greatest kind total [] x fits e = absurd cc
+byte_takes least greatest kind total (b ∷ bytes) x fits e =
+    let h = holds (leb least b && leb b greatest) (bad (total - length (b ∷ bytes)) kind) (Ok (b, bytes)) x e in
+    let p = and_parts _ _ h.0 in
+    let made : TakesByte least greatest (b ∷ bytes) b bytes = record {
+      takes = record { parts = refl; rest_fits = IsBytes-rest b bytes fits };
+      some = leb-true _ _ p.0;
+      few = leb-true _ _ p.1;
+    } in
+    subst (λ (y : ℕ × List ℕ). TakesByte least greatest (b ∷ bytes) y.0 y.1) (ok_is _ _ h.1) made
+
+-- the reserved byte 0
+pub zero_takes : (kind : Kind) (total : ℕ) (bytes : List ℕ) (x : ℕ × List ℕ) → IsBytes bytes → byte_at 0 0 kind total bytes ≡ Ok x
+    → Takes bytes (0 ∷ []) x.1
+zero_takes kind total bytes x fits e =
+    let t = byte_takes 0 0 kind total bytes x fits e in
+    let none : x.0 ≡ 0 = omega arith in
+    subst (λ (n : ℕ). Takes bytes (n ∷ []) x.1) none t.takes
+
+pub byte_again : (least greatest : ℕ) (kind : Kind) (total b : ℕ) (rest : List ℕ) → least ≤ b → b ≤ greatest
+    → byte_at least greatest kind total (b ∷ rest) ≡ Ok (b, rest)
+byte_again least greatest kind total b rest some few = rw (le-leb _ _ some, le-leb _ _ few) refl

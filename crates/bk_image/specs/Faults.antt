@@ -1,7 +1,7 @@
 -- The faults of an image's bytes.
 use Rattle.std.specs.Prelude.{◌≡◌, ℕ, Result, Ok, Err}
 use Rattle.bk_image.specs.declared.fault.Kind.{Kind}
-use Rattle.bk_image.specs.declared.fault.Kind.TheVariants.{Magic, Version, ReservedByte, Count, TooMany, Opcode, WordField, WordReserved, KnowLine, NotAscending, Short, Trailing}
+use Rattle.bk_image.specs.declared.fault.Kind.TheVariants.{Magic, Version, ReservedByte, Count, TooMany, Opcode, WordField, WordReserved, KnowLine, NotAscending, Short, Trailing, Limit}
 use Rattle.bk_image.specs.declared.fault.ImageFault.{ImageFault}
 use Rattle.bk_image.specs.declared.fault.ImageFault.TheVariants as errors
 
@@ -18,6 +18,7 @@ kind_code KnowLine = 9
 kind_code NotAscending = 10
 kind_code Short = 11
 kind_code Trailing = 12
+kind_code Limit = 13
 
 -- where the offending field begins, and what is wrong
 pub record Bad : Type 0 where

@@ -10,7 +10,7 @@ use thiserror::Error;
 pub enum Kind {
     /// The image doesn't begin with `BKUC`.
     Magic,
-    /// The version isn't 1.
+    /// The version is neither 1 nor 2.
     Version,
     /// A reserved byte of the header isn't 0.
     ReservedByte,
@@ -33,6 +33,8 @@ pub enum Kind {
     Short,
     /// Bytes stand behind the last field.
     Trailing,
+    /// The limit of a version 2 image isn't 1 to 16.
+    Limit,
 }
 
 impl Kind {
@@ -53,6 +55,7 @@ impl Kind {
             Kind::NotAscending => 10,
             Kind::Short => 11,
             Kind::Trailing => 12,
+            Kind::Limit => 13,
         }
     }
 }

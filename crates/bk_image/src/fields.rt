@@ -1,6 +1,6 @@
-//! The fields of an image: numbers, little-endian, and bytes that have to be given ones.
+//! The fields of an image: numbers, little-endian, and bytes in a range.
 
-ghost use Rattle.std.specs.Prelude.{◌≡◌, ◌-◌, length};
+ghost use Rattle.std.specs.Prelude.{◌≡◌, ◌-◌, ◌≤◌, length, IfOk};
 ghost use Rattle.std.specs.Int.{w32, w64};
 ghost use Rattle.bk_image.specs.Faults.{Gives};
 ghost use Rattle.bk_image.specs.Reading.{number_at, byte_at};
@@ -40,19 +40,21 @@ pub(crate) fn u64_at(total: usize, bytes: &[u8]) -> Result<(u64, &[u8]), ImageFa
     Ok((number, rest))
 }
 
-/// One byte that has to be a given one, and the bytes behind it.
+/// One byte that has to be from the least one to the greatest one, and the bytes behind it.
 pub(crate) fn byte_at(
-    want: u8,
+    least: u8,
+    greatest: u8,
     kind: Kind,
     total: usize,
     bytes: &[u8],
 ) -> Result<(u8, &[u8]), ImageFault>
-    ensures { Gives (λ x. (x.0, x.1.now)) result (byte_at want kind total bytes.now) }
+    ensures value { Gives (λ x. (x.0, x.1.now)) result (byte_at least greatest kind total bytes.now) }
+    ensures range { IfOk result (λ x. (least ≤ x.0) × (x.0 ≤ greatest)) }
 {
     match bytes {
         [] => Err(bad(total as u64, Kind::Short)),
         [b, rest @ ..] => {
-            if *b == want {
+            if *b >= least && *b <= greatest {
                 Ok((*b, rest))
             } else {
                 Err(bad(place(total, bytes), kind))

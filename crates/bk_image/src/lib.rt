@@ -11,7 +11,9 @@ mod words;
 mod writing;
 
 pub use fault::{ImageFault, Kind};
-pub use image::{INSTRUCTION_LIMIT, Image};
+pub use image::{
+    FIRST_LIMIT, FIRST_VERSION, GREATEST_LIMIT, INSTRUCTION_LIMIT, Image, SECOND_VERSION,
+};
 pub use reading::read_image;
 pub use writing::write_image;
 

@@ -7,7 +7,7 @@ ghost use Rattle.bk_image.specs.Reading.{mask_at, line_at, lines_at};
 
 use crate::fault::{ImageFault, Kind, bad};
 use crate::fields::{place, u32_at, u64_at};
-use crate::header::Counts;
+use crate::header::Heading;
 use bk_know::Know;
 use std::alloc::Global;
 
@@ -51,21 +51,21 @@ fn line_at(total: usize, instrs: u32, least: u32, bytes: &[u8]) -> Result<(u32, 
     Ok((at, know))
 }
 
-/// As many know lines as the counts say, and the bytes behind them.
+/// As many know lines as the heading says, and the bytes behind them.
 pub(crate) fn lines_of(
     alloc: Global,
     total: usize,
-    counts: Counts,
+    heading: Heading,
     bytes: &[u8],
 ) -> Result<(Vec<(u32, Know)>, &[u8]), ImageFault>
-    ensures value { Gives (λ x. (x.0.items, x.1.now)) result (lines_at total counts.instrs counts.knows 0 bytes.now) }
-    ensures lines { IfOk result (λ x. are_lines counts.instrs 0 x.0.items ≡ true) }
+    ensures value { Gives (λ x. (x.0.items, x.1.now)) result (lines_at total heading.instrs heading.knows 0 bytes.now) }
+    ensures lines { IfOk result (λ x. are_lines heading.instrs 0 x.0.items ≡ true) }
 {
     let mut lines = Vec::new(alloc);
     let mut rest = bytes;
     let mut least = 0;
-    for _ in 0..counts.knows {
-        let line = line_at(total, counts.instrs, least, rest)?;
+    for _ in 0..heading.knows {
+        let line = line_at(total, heading.instrs, least, rest)?;
         least = line.0 + 1;
         lines.push(line)?;
         let (_front, after) = rest.split_at(LINE_BYTES);

@@ -104,7 +104,26 @@ fn uncached_is_read_and_written(rt: HostRuntime) -> Result<(), Fail> {
         assert_eq!(rt; instr.form(), *form);
     }
     assert_eq!(rt; image.know_at(0), None);
+    assert_eq!(rt; (image.version(), image.limit()), (1, 8));
     assert!(rt; write_image(rt.alloc(), &image)?.as_slice() == UNCACHED.as_slice());
+    Ok(())
+}
+
+#[test]
+fn a_limit_is_read_and_written(rt: HostRuntime) -> Result<(), Fail> {
+    let mut bytes = UNCACHED.to_vec(rt.alloc())?;
+    *bytes.get_mut(4).ok_or("such a byte")? = 2;
+    for limit in 1..=16 {
+        *bytes.get_mut(5).ok_or("such a byte")? = limit;
+        let image = read_image(rt.alloc(), &bytes).ok().ok_or("an image")?;
+        assert_eq!(rt; (image.version(), image.limit()), (2, limit));
+        assert!(rt; write_image(rt.alloc(), &image)? == bytes);
+    }
+    for (at, byte, kind) in [(5, 0, 13), (5, 17, 13), (5, 255, 13), (6, 1, 3), (7, 1, 3)] {
+        let mut changed = bytes.clone()?;
+        *changed.get_mut(at).ok_or("such a byte")? = byte;
+        assert_eq!(rt; fault(rt.alloc(), &changed), Some((at as u64, kind)));
+    }
     Ok(())
 }
 
@@ -141,7 +160,10 @@ fn faults_have_their_places(rt: HostRuntime) -> Result<(), Fail> {
     // A byte of the image, another value for it, and the fault.
     let changed = [
         (0, 0x43, 0, 1),
-        (4, 2, 4, 2),
+        (4, 0, 4, 2),
+        (4, 2, 5, 13),
+        (4, 3, 4, 2),
+        (5, 8, 5, 3),
         (6, 1, 6, 3),
         (8, 0, 8, 4),
         (9, 1, 8, 5),
@@ -168,9 +190,11 @@ fn faults_have_their_places(rt: HostRuntime) -> Result<(), Fail> {
 fn lists_that_are_no_image(rt: HostRuntime) -> Result<(), Fail> {
     let alloc = rt.alloc();
     let nop = Instr::make(Form::Nop).ok_or("an instruction")?;
-    assert!(rt; Image::make(Vec::new(alloc), Vec::new(alloc)).is_none());
+    assert!(rt; Image::make(1, 8, Vec::new(alloc), Vec::new(alloc)).is_none());
     assert!(rt;
         Image::make(
+            1,
+            8,
             vec![in alloc; nop, nop]?,
             vec![in alloc; (0, idle()), (1, held())]?
         )
@@ -178,11 +202,35 @@ fn lists_that_are_no_image(rt: HostRuntime) -> Result<(), Fail> {
     );
     assert!(rt;
         Image::make(
+            1,
+            8,
             vec![in alloc; nop, nop]?,
             vec![in alloc; (1, idle()), (1, held())]?
         )
         .is_none()
     );
-    assert!(rt; Image::make(vec![in alloc; nop, nop]?, vec![in alloc; (2, idle())]?).is_none());
+    assert!(rt;
+        Image::make(
+            1,
+            8,
+            vec![in alloc; nop, nop]?,
+            vec![in alloc; (2, idle())]?
+        )
+        .is_none()
+    );
+    for (version, limit, is_one) in [
+        (0, 8, false),
+        (1, 7, false),
+        (1, 16, false),
+        (2, 0, false),
+        (2, 1, true),
+        (2, 8, true),
+        (2, 16, true),
+        (2, 17, false),
+        (3, 8, false),
+    ] {
+        let image = Image::make(version, limit, vec![in alloc; nop]?, Vec::new(alloc));
+        assert_eq!(rt; image.is_some(), is_one);
+    }
     Ok(())
 }

@@ -4,24 +4,37 @@ ghost use Rattle.std.specs.Prelude.{◌≡◌, ◌++◌, length, IfOk, Ok};
 ghost use Rattle.std.specs.List.{flat_map, AllByRecursion};
 ghost use Rattle.bk_isa.specs.Words.{IsInRange};
 ghost use Rattle.bk_image.specs.Reading.{image_at};
-ghost use Rattle.bk_image.specs.Spelling.{header, word, line, HasMask, spelling};
+ghost use Rattle.bk_image.specs.Spelling.{limit_byte, header, word, line, HasMask, spelling};
 
-use crate::image::Image;
+use crate::header::Heading;
+use crate::image::{FIRST_VERSION, Image};
 use bk_isa::{Instr, word_of};
 use bk_know::Know;
 use std::alloc::{AllocError, Global};
 
-/// The magic, the version and three reserved bytes.
-const FRONT: [u8; 8] = [0x42, 0x4b, 0x55, 0x43, 1, 0, 0, 0];
+/// `BKUC`.
+const MAGIC: [u8; 4] = [0x42, 0x4b, 0x55, 0x43];
 
-/// What stands before the words of an image with so many instructions and know lines.
-fn header_of(alloc: Global, instrs: u32, knows: u32) -> Result<Vec<u8>, AllocError>
-    ensures { IfOk result (λ v. v.items ≡ header instrs knows) }
+/// The byte of the limit, which is reserved in version 1.
+fn limit_byte(heading: Heading) -> u8
+    ensures { result ≡ limit_byte heading.version heading.limit }
+{
+    if heading.version == FIRST_VERSION {
+        0
+    } else {
+        heading.limit
+    }
+}
+
+/// What stands before the words of an image.
+fn header_of(alloc: Global, heading: Heading) -> Result<Vec<u8>, AllocError>
+    ensures { IfOk result (λ v. v.items ≡ header heading) }
 {
     let mut bytes = Vec::new(alloc);
-    bytes.extend_from_slice(&FRONT)?;
-    bytes.extend_from_slice(&instrs.to_le_bytes())?;
-    bytes.extend_from_slice(&knows.to_le_bytes())?;
+    bytes.extend_from_slice(&MAGIC)?;
+    bytes.extend_from_slice(&[heading.version, limit_byte(heading), 0, 0])?;
+    bytes.extend_from_slice(&heading.instrs.to_le_bytes())?;
+    bytes.extend_from_slice(&heading.knows.to_le_bytes())?;
     Ok(bytes)
 }
 
@@ -66,7 +79,13 @@ pub fn write_image(alloc: Global, image: &Image) -> Result<Vec<u8>, AllocError>
 {
     let instrs = image.instrs();
     let knows = image.knows();
-    let mut bytes = header_of(alloc, instrs.len() as u32, knows.len() as u32)?;
+    let heading = Heading {
+        version: image.version(),
+        limit: image.limit(),
+        instrs: instrs.len() as u32,
+        knows: knows.len() as u32,
+    };
+    let mut bytes = header_of(alloc, heading)?;
     push_words(&mut bytes, instrs)?;
     push_lines(&mut bytes, knows)?;
     Ok(bytes)

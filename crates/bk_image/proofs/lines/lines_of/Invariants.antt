@@ -4,5 +4,5 @@ use Rattle.bk_image.proofs.Loop.{with_front}
 use Rattle.bk_image.proofs.lines.lines_of.Given as goal
 
 abbrev pub invariant-loop : goal.invariant-loop
-invariant-loop l = with_front l.lines.items (lines_at l.total l.counts.instrs (l.counts.knows - l.counter) l.least l.rest)
-    ≡ lines_at l.total l.counts.instrs l.counts.knows 0 l.bytes
+invariant-loop l = with_front l.lines.items (lines_at l.total l.heading.instrs (l.heading.knows - l.counter) l.least l.rest)
+    ≡ lines_at l.total l.heading.instrs l.heading.knows 0 l.bytes

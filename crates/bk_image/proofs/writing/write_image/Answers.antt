@@ -11,9 +11,12 @@ returns-clause-again c =
     let knows = c.knows-knows.ensures in
     let spelled : c.push_lines.new.bytes.items ≡ spelling image = search rules in
     let is_image : IsImage image = record {
-      whole = record {
-        count = record { some = rw instrs.value at instrs.some; few = rw instrs.value at instrs.few };
-        lines = rw knows.value at knows.lines;
+      parts = record {
+        format = rw c.limit.ensures.value at c.limit.ensures.format;
+        whole = record {
+          count = record { some = rw instrs.value at instrs.some; few = rw instrs.value at instrs.few };
+          lines = rw knows.value at knows.lines;
+        };
       };
       in_range = rw instrs.value at c.in_ok-push_words.ensures.in_range;
       masks = rw knows.value at c.in_ok-push_lines.ensures.masks;

@@ -12,5 +12,5 @@ returns c =
       ← c.self.view_is,
       ← c.deref.ensures.value,
     )
-    (searched (length c.self.inside.instrs.items) c.deref.result.now (rw c.deref.ensures.value c.self.invariant.lines) c.args.place _
+    (searched (length c.self.inside.instrs.items) c.deref.result.now (rw c.deref.ensures.value c.self.invariant.whole.lines) c.args.place _
     facts.bound by_key)
