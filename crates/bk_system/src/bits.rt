@@ -24,8 +24,8 @@ pub(crate) fn marked(word: u64, place: u8, set: bool) -> u64
 pub(crate) fn mark(marks: &mut [u64; MARK_WORDS], place: u8, set: bool)
     ensures { (c : ℕ) → c < 256 → mark_at marks.new c ≡ put (mark_at marks.old) place (if set then 1 else 0) c }
 {
-    let word = &mut marks[(place / WORD_PLACES) as usize];
-    *word = marked(*word, place % WORD_PLACES, set);
+    let word = (place / WORD_PLACES) as usize;
+    marks[word] = marked(marks[word], place % WORD_PLACES, set);
 }
 
 /// The least place from a start on whose bit is set.

@@ -24,10 +24,10 @@ returns-clause-state c = λ i. record {
 -- each part was made for the configuration
 pub invariant_of-result : goal.invariant_of-result
 invariant_of-result c =
-    let count : c.cache_count-count.result ≡ c.args.config.caches = c.cache_count-count.ensures.value in
+    let count : c.cache_count-caches.result ≡ c.args.config.caches = c.cache_count-caches.ensures.value in
     record {
-      few_caches = subst (λ (n : ℕ). n ≤ MOST_CACHES) count c.cache_count-count.ensures.few;
-      some_caches = subst (λ (n : ℕ). 0 < n) count c.cache_count-count.ensures.some;
+      few_caches = subst (λ (n : ℕ). n ≤ MOST_CACHES) count c.cache_count-caches.ensures.few;
+      some_caches = subst (λ (n : ℕ). 0 < n) count c.cache_count-caches.ensures.some;
       caches_config = c.in_ok-make.ensures.config;
       engine_config = c.in_ok-make-2.ensures.config;
       requests_config = c.in_ok-make-3.ensures.config;
