@@ -1,6 +1,6 @@
 -- One channel of the hardware holds other messages, and all else is as it was.
 use Rattle.std.proofs.Common.{◌≡◌, ℕ, ◌<◌, ◌≤◌, Bool, true, false, cond, eqb, ◌&&◌, refl, ap, sym, ◌∙◌, List, [], ◌∷◌, ◌++◌, drop, Result, Ok, Err, subst, arith}
-use Rattle.std.specs.Prelude.{OnOk, if◌then◌else◌, ◌==◌, nat_lt}
+use Rattle.std.specs.Prelude.{OnOk, if◌then◌else◌, nat_lt}
 use Rattle.std.proofs.lemmas.Bool.Decides.{nat_tests}
 use Rattle.bk_base.specs.Places.{Shape}
 use Rattle.bk_base.specs.Tables.{put}

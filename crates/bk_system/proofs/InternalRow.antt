@@ -1,13 +1,12 @@
 -- The row of an Engine event whose instruction is internal: the engine alone changes.
-use Rattle.std.proofs.Common.{◌≡◌, ◌∙◌, ℕ, ◌<◌, ◌++◌, List, [], Bool, true, false, Option, Some, None, refl, ap, append-nil}
+use Rattle.std.proofs.Common.{◌≡◌, ◌∙◌, ◌<◌, List, [], Bool, true, false, Some, None, refl, ap, append-nil}
 use Rattle.std.specs.Prelude.{◌&&◌, is_none, nat_lt, if◌then◌else◌, slice_get}
 use Rattle.std.proofs.lemmas.Bool.{and_from, lt-ltb, cond-true}
 use Rattle.bk_base.specs.Places.{Shape}
 use Rattle.bk_isa.specs.declared.form.Form.{Form}
 use Rattle.bk_engine.specs.Engine.{EngineState}
 use Rattle.bk_engine.specs.Step.{Outcome, runs, runs_to, RunsInternally}
-use Rattle.bk_system.specs.declared.event.Origin.{Origin}
-use Rattle.bk_system.specs.Events.{Happening, can_run, engine_row, is_choice, is_wait, no_channel, offered_head, with_outcome}
+use Rattle.bk_system.specs.Events.{can_run, engine_row, is_choice, is_wait, no_channel, offered_head, with_outcome}
 use Rattle.bk_system.specs.State.{State}
 
 either : (b : Bool) → (if b then true else true) ≡ true
