@@ -6,6 +6,7 @@ use Rattle.std.proofs.lemmas.Bool.{and_parts, leb-true}
 use Rattle.std.proofs.lemmas.Bool.Decides.{nat_tests}
 use Rattle.bk_base.specs.Counting.{is_nil}
 use Rattle.bk_base.specs.Places.{Shape, InProfile}
+use Rattle.bk_base.specs.declared.config.TheConstants.{MOST_CACHES}
 use Rattle.bk_isa.specs.declared.form.Form.{Form}
 use Rattle.bk_isa.specs.declared.form.Form.TheVariants.{Wfq}
 use Rattle.bk_isa.specs.Operands.{Operands}
@@ -256,8 +257,9 @@ module _ (k : Shape) (program : List Form) (s : State) (outside : NoneOutside k 
       absurd (no-wait y d tied u (awaited k s y d a tied.agrees (and_parts _ _ (in-held y.1.granted _ _ u m.o6)).1))
 
 below-cache : (k : Shape) → InProfile k → 0 < k.caches
-below-cache k p = let least : 1 ≤ k.caches = leb-true 1 k.caches (and_parts (nat_le 1 k.caches) (nat_le k.caches 8) p.caches).0
-    in omega arith
+below-cache k p =
+    let least : 1 ≤ k.caches = leb-true 1 k.caches (and_parts (nat_le 1 k.caches) (nat_le k.caches MOST_CACHES) p.caches).0 in
+    omega arith
 
 nil-of : {X : Type 0} (xs : List X) → xs ≡ [] → is_nil xs ≡ true
 nil-of xs e = ap is_nil e

@@ -11,7 +11,7 @@ use Rattle.bk_trace.specs.Traces.{operations_of, IsOp, IsLine}
 use Rattle.bk_lce.specs.CacheTable.{address_of, issue}
 use Rattle.bk_system.specs.declared.event.Event.{Event}
 use Rattle.bk_system.specs.declared.event.Event.TheVariants as events
-use Rattle.bk_system.specs.Lawful.{IsLawful, AreLawful}
+use Rattle.bk_system.specs.Lawful.{AreLawful}
 use Rattle.bk_system.specs.Events.{issue_taken}
 use Rattle.bk_system.specs.State.{State, opening}
 use Rattle.bk_system.specs.Runs.{after, is_enabled, issued_by, IsPrefix, IsTightFrom, IsTight, IsInOrder}

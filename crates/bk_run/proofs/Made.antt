@@ -1,6 +1,6 @@
 -- What a look at the hardware tells of the schedule: which events aren't enabled, and how one call that makes an event comes after another.
-use Rattle.std.proofs.Common.{◌≡◌, ℕ, zero, suc, ◌+◌, ◌*◌, ◌<◌, ◌≤◌, ◌⊎◌, List, [], ◌∷◌, Bool, true, false, ◌&&◌, Option, Some, None, refl, ap, sym, ◌∙◌, subst, inl, inr, arith}
-use Rattle.std.specs.Prelude.{◌==◌, ◌/◌, ◌%◌, if◌then◌else◌, nat_lt, slice_get, is_none, is_some, option_and_then, Result, Ok, Err, IfOk, IfSome, IsTrue}
+use Rattle.std.proofs.Common.{◌≡◌, ℕ, zero, suc, ◌+◌, ◌<◌, ◌≤◌, ◌⊎◌, List, [], ◌∷◌, Bool, true, false, ◌&&◌, Option, Some, None, refl, ap, sym, ◌∙◌, subst, inl, inr, arith}
+use Rattle.std.specs.Prelude.{◌==◌, if◌then◌else◌, nat_lt, slice_get, is_none, is_some, option_and_then, Result, Ok, Err, IfOk, IfSome, IsTrue}
 use Rattle.std.proofs.lemmas.Bool.{and_left, and_right, and_parts, cases_eq, cases_lt, ltb-true}
 use Rattle.bk_base.specs.Places.{Shape}
 use Rattle.bk_base.specs.Counting.{first_below, or_else}
@@ -19,10 +19,10 @@ use Rattle.bk_engine.specs.declared.parts.TheConstants.{CLASS_NONE, CLASS_RESPON
 use Rattle.bk_engine.specs.Heads.{names_class}
 use Rattle.bk_engine.specs.Stops.{wait_stop, stop_at}
 use Rattle.bk_system.specs.declared.event.Event.{Event}
-use Rattle.bk_system.specs.declared.event.Event.TheVariants.{Issue, Command, Fill, Memory, Engine}
+use Rattle.bk_system.specs.declared.event.Event.TheVariants.{Issue, Command, Fill, Engine}
 use Rattle.bk_system.specs.State.{State}
 use Rattle.bk_system.specs.Runs.{is_enabled}
-use Rattle.bk_system.specs.Events.{row, cache_row, issue_taken, command_of, without_command, fill_of, without_fill, access_row, first, is_wait, is_choice, can_run, offered_head}
+use Rattle.bk_system.specs.Events.{row, cache_row, issue_taken, command_of, without_command, fill_of, without_fill, first, is_wait, is_choice, can_run, offered_head}
 use Rattle.bk_system.specs.Lookups.{is_filled, has_message, has_fill, is_idle, awaited}
 use Rattle.bk_system.specs.Next.{IsNextOf, IsNoneFrom}
 use Rattle.bk_system.specs.Numbering.{fill_place, receiver_at, sender_at}

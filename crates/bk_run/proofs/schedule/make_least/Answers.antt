@@ -1,6 +1,6 @@
 use Rattle.std.proofs.Common.{sym, subst, ◌∙◌}
 use Rattle.std.specs.Fn.{FnReturnsAt}
-use Rattle.bk_base.specs.Places.{Shape, InProfile}
+use Rattle.bk_base.specs.Places.{InProfile}
 use Rattle.bk_lce.specs.CacheArrays as caches
 use Rattle.bk_system.specs.declared.event.Event.TheVariants.{Issue}
 use Rattle.bk_system.specs.Systems.{state_of}
