@@ -2,6 +2,7 @@
 use Rattle.std.proofs.Common.{◌≡◌, ℕ, zero, suc, ◌+◌, ◌*◌, ◌-◌, ◌/◌, ◌%◌, ◌<◌, Bool, true, false, ◌&&◌, ◌||◌, cond, inl, inr, List, [], ◌∷◌, ◌++◌, refl, sym, ap, ◌∙◌, arith}
 use Rattle.std.specs.Prelude.{Option, Some, None, codes, ◌==◌}
 use Rattle.std.specs.List.{AllByRecursion}
+use Rattle.std.specs.Str.{bytes_eq}
 use Rattle.bk_know.specs.declared.sets.Sets.{Sets}
 use Rattle.bk_know.specs.Sets.{field}
 use Rattle.std.proofs.lemmas.Bool.{eqb-true, and_parts}
@@ -186,6 +187,7 @@ pub record IsPlaceLabel (n : ℕ) : Type 0 where
   pub label : is_label (label_text n) ≡ true
   pub read : label_of (label_text n ++ codes ":") ≡ Some (label_text n)
   pub number : label_number (label_text n) ≡ n
+  pub other : bytes_eq (label_text n ++ codes ":") (codes "caches") ≡ false
 
 -- four tests that pass together
 three : (a b test d : Bool) → a && b && test && d ≡ true → (a ≡ true) × (b ≡ true) × (test ≡ true) × (d ≡ true)
@@ -214,6 +216,7 @@ label_again n lt =
       label = label;
       read = label_read (label_text n) 76 (48 + n / 100 % 10) (48 + n / 10 % 10) (48 + n % 10) e label;
       number = ap label_number e ∙ eqb-true (label_number (label_bytes n)) n t.3;
+      other = ap (λ l. bytes_eq (l ++ codes ":") (codes "caches")) e;
     }
 
 -- places with one label are one place

@@ -61,6 +61,7 @@ know_pushed n ks (Some s) e = lines_push n 0 ks s (omega arith) e
 pub statement_draft : (d : Draft) (statement : Statement) (p : ℕ) → p ≡ length d.statements → IsDraft d
     → length d.statements < 256
     → IsDraft (record {
+      limit = d.limit;
       statements = d.statements ++ statement ∷ [];
       knows = d.knows ++ know_line p d.know;
       labels = d.labels;
@@ -70,6 +71,7 @@ pub statement_draft : (d : Draft) (statement : Statement) (p : ℕ) → p ≡ le
 statement_draft d statement p is h lt =
     let len : length (d.statements ++ statement ∷ []) ≡ length d.statements + 1 = length_push d.statements statement in
     record {
+      limit = h.limit;
       few = omega arith;
       lines = rw (len, is) (know_pushed (length d.statements) d.knows d.know h.lines);
       labels = rw len (under_more (length d.statements + cond d.waits 1 0) (length d.statements + 1 + 0) d.labels
@@ -78,6 +80,7 @@ statement_draft d statement p is h lt =
 
 pub label_draft : (d : Draft) (name : List ℕ) (p : ℕ) → p ≡ length d.statements → IsDraft d
     → IsDraft (record {
+      limit = d.limit;
       statements = d.statements;
       knows = d.knows;
       labels = insert_entry (slice_cmp nat_cmp) d.labels name p;
@@ -85,6 +88,7 @@ pub label_draft : (d : Draft) (name : List ℕ) (p : ℕ) → p ≡ length d.sta
       waits = true;
     })
 label_draft d name p is h = record {
+  limit = h.limit;
   few = h.few;
   lines = h.lines;
   labels = insert_under (length d.statements + 1) d.labels name p (omega arith)

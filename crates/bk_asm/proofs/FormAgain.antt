@@ -207,58 +207,58 @@ mnemonic_good operations.Memww = record { text = refl; words = refl }
 -- an instruction's line, by what its operands are
 -- The mnemonic is a known word, or two for a `pushq`, so the reader computes on each of the 48: the word is no label and not `know`,
 -- the table of mnemonics has it, and the operands are left to be read.
-mnemonic_read : (o : Operation) (labels : List Naming) (known : Bool) (line end : ℕ) (ws : List (List ℕ))
-    → line_at labels false known line (row (marks 3 (mnemonic_words o ++ ws)) end) (marks 3 (mnemonic_words o ++ ws))
+mnemonic_read : (o : Operation) (labels : List Naming) (begun known : Bool) (line end : ℕ) (ws : List (List ℕ))
+    → line_at labels begun false known line (row (marks 3 (mnemonic_words o ++ ws)) end) (marks 3 (mnemonic_words o ++ ws))
     ≡ (operands_at line o (row (marks (past 3 (mnemonic_words o)) ws) end) >>= λ statement. Ok (parts None (Some statement)))
 unfolding line_at labelled_at content_at mnemonic_at field
-mnemonic_read operations.Nop labels known line end ws = refl
-mnemonic_read operations.Add labels known line end ws = refl
-mnemonic_read operations.Sub labels known line end ws = refl
-mnemonic_read operations.And labels known line end ws = refl
-mnemonic_read operations.Or labels known line end ws = refl
-mnemonic_read operations.Xor labels known line end ws = refl
-mnemonic_read operations.Shl labels known line end ws = refl
-mnemonic_read operations.Shr labels known line end ws = refl
-mnemonic_read operations.Addi labels known line end ws = refl
-mnemonic_read operations.Not labels known line end ws = refl
-mnemonic_read operations.Neg labels known line end ws = refl
-mnemonic_read operations.Mov labels known line end ws = refl
-mnemonic_read operations.Movi labels known line end ws = refl
-mnemonic_read operations.Mova labels known line end ws = refl
-mnemonic_read operations.Movs labels known line end ws = refl
-mnemonic_read operations.Movw labels known line end ws = refl
-mnemonic_read operations.Movk labels known line end ws = refl
-mnemonic_read operations.Bi labels known line end ws = refl
-mnemonic_read operations.Beq labels known line end ws = refl
-mnemonic_read operations.Bne labels known line end ws = refl
-mnemonic_read operations.Blt labels known line end ws = refl
-mnemonic_read operations.Bge labels known line end ws = refl
-mnemonic_read operations.Bk labels known line end ws = refl
-mnemonic_read operations.Sf labels known line end ws = refl
-mnemonic_read operations.Cf labels known line end ws = refl
-mnemonic_read operations.Nf labels known line end ws = refl
-mnemonic_read operations.Movf labels known line end ws = refl
-mnemonic_read operations.Andf labels known line end ws = refl
-mnemonic_read operations.Orf labels known line end ws = refl
-mnemonic_read operations.Rdw labels known line end ws = refl
-mnemonic_read operations.Gad labels known line end ws = refl
-mnemonic_read operations.Wde labels known line end ws = refl
-mnemonic_read operations.Wds labels known line end ws = refl
-mnemonic_read operations.Fin labels known line end ws = refl
-mnemonic_read operations.Wfq labels known line end ws = refl
-mnemonic_read operations.Popq labels known line end ws = refl
-mnemonic_read operations.Defer labels known line end ws = refl
-mnemonic_read operations.Inv labels known line end ws = refl
-mnemonic_read operations.Stwb labels known line end ws = refl
-mnemonic_read operations.Blk labels known line end ws = refl
-mnemonic_read operations.Wake labels known line end ws = refl
-mnemonic_read operations.Tr labels known line end ws = refl
-mnemonic_read operations.Ucblk labels known line end ws = refl
-mnemonic_read operations.Ucdone labels known line end ws = refl
-mnemonic_read operations.Done labels known line end ws = refl
-mnemonic_read operations.Memrd labels known line end ws = refl
-mnemonic_read operations.Memwb labels known line end ws = refl
-mnemonic_read operations.Memww labels known line end ws = refl
+mnemonic_read operations.Nop labels begun known line end ws = refl
+mnemonic_read operations.Add labels begun known line end ws = refl
+mnemonic_read operations.Sub labels begun known line end ws = refl
+mnemonic_read operations.And labels begun known line end ws = refl
+mnemonic_read operations.Or labels begun known line end ws = refl
+mnemonic_read operations.Xor labels begun known line end ws = refl
+mnemonic_read operations.Shl labels begun known line end ws = refl
+mnemonic_read operations.Shr labels begun known line end ws = refl
+mnemonic_read operations.Addi labels begun known line end ws = refl
+mnemonic_read operations.Not labels begun known line end ws = refl
+mnemonic_read operations.Neg labels begun known line end ws = refl
+mnemonic_read operations.Mov labels begun known line end ws = refl
+mnemonic_read operations.Movi labels begun known line end ws = refl
+mnemonic_read operations.Mova labels begun known line end ws = refl
+mnemonic_read operations.Movs labels begun known line end ws = refl
+mnemonic_read operations.Movw labels begun known line end ws = refl
+mnemonic_read operations.Movk labels begun known line end ws = refl
+mnemonic_read operations.Bi labels begun known line end ws = refl
+mnemonic_read operations.Beq labels begun known line end ws = refl
+mnemonic_read operations.Bne labels begun known line end ws = refl
+mnemonic_read operations.Blt labels begun known line end ws = refl
+mnemonic_read operations.Bge labels begun known line end ws = refl
+mnemonic_read operations.Bk labels begun known line end ws = refl
+mnemonic_read operations.Sf labels begun known line end ws = refl
+mnemonic_read operations.Cf labels begun known line end ws = refl
+mnemonic_read operations.Nf labels begun known line end ws = refl
+mnemonic_read operations.Movf labels begun known line end ws = refl
+mnemonic_read operations.Andf labels begun known line end ws = refl
+mnemonic_read operations.Orf labels begun known line end ws = refl
+mnemonic_read operations.Rdw labels begun known line end ws = refl
+mnemonic_read operations.Gad labels begun known line end ws = refl
+mnemonic_read operations.Wde labels begun known line end ws = refl
+mnemonic_read operations.Wds labels begun known line end ws = refl
+mnemonic_read operations.Fin labels begun known line end ws = refl
+mnemonic_read operations.Wfq labels begun known line end ws = refl
+mnemonic_read operations.Popq labels begun known line end ws = refl
+mnemonic_read operations.Defer labels begun known line end ws = refl
+mnemonic_read operations.Inv labels begun known line end ws = refl
+mnemonic_read operations.Stwb labels begun known line end ws = refl
+mnemonic_read operations.Blk labels begun known line end ws = refl
+mnemonic_read operations.Wake labels begun known line end ws = refl
+mnemonic_read operations.Tr labels begun known line end ws = refl
+mnemonic_read operations.Ucblk labels begun known line end ws = refl
+mnemonic_read operations.Ucdone labels begun known line end ws = refl
+mnemonic_read operations.Done labels begun known line end ws = refl
+mnemonic_read operations.Memrd labels begun known line end ws = refl
+mnemonic_read operations.Memwb labels begun known line end ws = refl
+mnemonic_read operations.Memww labels begun known line end ws = refl
 
 -- the text of an instruction's line, without its end
 abbrev pub form_bytes : Form → List ℕ
@@ -292,17 +292,17 @@ unfolding form_line
 form_bytes_are f h = ap (λ l. (32 ∷ l) ++ 10 ∷ []) (form_spaced f h)
 
 -- an instruction is read from its line
-pub form_read : (f : Form) (labels : List Naming) (known : Bool) (line : ℕ) → IsInRange f
-    → (column : ℕ) × (line_at labels false known line (row_at (form_bytes f)) (row_at (form_bytes f)).words
+pub form_read : (f : Form) (labels : List Naming) (begun known : Bool) (line : ℕ) → IsInRange f
+    → (column : ℕ) × (line_at labels begun false known line (row_at (form_bytes f)) (row_at (form_bytes f)).words
     ≡ Ok (parts None (Some (statement_of line column (operation_of f) (fields_of f)))))
-form_read f labels known line h =
+form_read f labels begun known line h =
     let o = operation_of f in
     let p = fields_of f in
     let c = past 3 (mnemonic_words o) in
     let end = length (form_bytes f) + 1 in
     let r = operands_read line c end o p (fits f h) in (
       last_column c o p,
-      ap (λ (r : LineWords). line_at labels false known line r r.words) (row_words (form_words f) (form_is_words f h))
-          ∙ mnemonic_read o labels known line end (operand_words o p)
+      ap (λ (r : LineWords). line_at labels begun false known line r r.words) (row_words (form_words f) (form_is_words f h))
+          ∙ mnemonic_read o labels begun known line end (operand_words o p)
           ∙ ap (λ (r : Result Statement At). r >>= λ statement. Ok (parts None (Some statement))) r.read,
     )

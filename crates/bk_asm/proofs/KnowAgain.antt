@@ -353,21 +353,21 @@ pub know_bytes_are : (sets : Sets) → know_text sets ≡ know_bytes sets ++ 10 
 know_bytes_are sets = text_by (is_held sets) sets
 
 -- a know line, by its base and what its entries are read as
-line_by : (b : Bool) (labels : List Naming) (full : Bool) (line end : ℕ) (ws : List (List ℕ)) (sets : Sets)
+line_by : (b : Bool) (labels : List Naming) (begun full : Bool) (line end : ℕ) (ws : List (List ℕ)) (sets : Sets)
     → ((c : ℕ) → entries_at (cond b held_base idle_base) 0 None (marks c ws) ≡ Ok sets)
-    → line_at labels full false line (row (marks 3 (codes "know" ∷ cond b (codes "held") (codes "idle") ∷ ws)) end)
+    → line_at labels begun full false line (row (marks 3 (codes "know" ∷ cond b (codes "held") (codes "idle") ∷ ws)) end)
     (marks 3 (codes "know" ∷ cond b (codes "held") (codes "idle") ∷ ws)) ≡ Ok (parts (Some sets) None)
 unfolding line_at labelled_at content_at know_at word_of
-line_by true labels full line end ws s e = ap (λ (r : Result Sets At). r >>= λ sets. Ok (parts (Some sets) None)) (e 13)
-line_by false labels full line end ws s e = ap (λ (r : Result Sets At). r >>= λ sets. Ok (parts (Some sets) None)) (e 13)
+line_by true labels begun full line end ws s e = ap (λ (r : Result Sets At). r >>= λ sets. Ok (parts (Some sets) None)) (e 13)
+line_by false labels begun full line end ws s e = ap (λ (r : Result Sets At). r >>= λ sets. Ok (parts (Some sets) None)) (e 13)
 
 -- a know line is read from its text
-pub know_read : (sets : Sets) (labels : List Naming) (full : Bool) (line : ℕ) → IsKnow sets
-    → line_at labels full false line (row_at (know_bytes sets)) (row_at (know_bytes sets)).words ≡ Ok (parts (Some sets) None)
-know_read sets labels full line h =
+pub know_read : (sets : Sets) (labels : List Naming) (begun full : Bool) (line : ℕ) → IsKnow sets
+    → line_at labels begun full false line (row_at (know_bytes sets)) (row_at (know_bytes sets)).words ≡ Ok (parts (Some sets) None)
+know_read sets labels begun full line h =
     let ws = entry_words (names_of names.Field) (base_of_sets sets) sets in
     let end = length (know_bytes sets) + 1 in
-    ap (λ (r : LineWords). line_at labels full false line r r.words) (row_words (know_words sets) (know_is_words sets h))
-    ∙ line_by (is_held sets) labels full line end ws sets
+    ap (λ (r : LineWords). line_at labels begun full false line r r.words) (row_words (know_words sets) (know_is_words sets h))
+    ∙ line_by (is_held sets) labels begun full line end ws sets
     (λ c. entries_read (names_of names.Field) (base_of_sets sets) sets (base_of_sets sets) 0 0 c (omega arith) refl (entries_of sets h)
     ∙ ap Ok (all_applied (base_of_sets sets) sets))

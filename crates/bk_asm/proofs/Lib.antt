@@ -15,6 +15,7 @@ pub mod Sentences
 pub mod SpelledDrafts
 pub mod SpelledForms
 pub mod SpelledKnow
+pub mod SpelledLimits
 pub mod SpelledLine
 pub mod SpelledTexts
 pub mod SpelledWords

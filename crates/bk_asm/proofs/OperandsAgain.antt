@@ -155,7 +155,7 @@ digits_plain (d ∷ ds) e =
     and_from (is_plain d) (list_all is_plain ds) (digit_is_plain d t.0) (digits_plain ds t.1)
 
 -- a number in decimal digits is a word
-decimal_word : (n : ℕ) → n < 2 ^ 64 → is_word (decimal n) ≡ true
+pub decimal_word : (n : ℕ) → n < 2 ^ 64 → is_word (decimal n) ≡ true
 decimal_word n small =
     let d = decimal_is_IsNumeral n small in
     and_from (is_nonempty (decimal n)) (list_all is_plain (decimal n)) (nonempty (decimal n) d.0.0)

@@ -5,6 +5,7 @@ use Rattle.std.specs.List.{list_any, AllByRecursion}
 use Rattle.std.specs.Ordering.{nat_cmp}
 use Rattle.std.specs.Cmp.Lexicographic.{slice_cmp}
 use Rattle.std.specs.BTreeMap.{insert_entry}
+use Rattle.std.specs.Str.{bytes_eq}
 use Rattle.std.specs.Str.Lines.{lines}
 use Rattle.std.proofs.lemmas.Bool.{eqb-true, and_from}
 use Rattle.std.proofs.lemmas.Bool.Decides.{nat_tests}
@@ -21,7 +22,7 @@ use Rattle.bk_text.proofs.LineWords.{tested}
 use Rattle.bk_asm.specs.Names.{Naming}
 use Rattle.bk_asm.specs.Mnemonics.{operation_of}
 use Rattle.bk_asm.specs.Programs.{Statement}
-use Rattle.bk_asm.specs.Reading.{Draft, nothing_read, row_at, place_of, parts, fresh_label, rest_at, labelled_at, line_at, with_label, with_know, know_line, with_statement, lines_at, forms_at, image_of, image_at}
+use Rattle.bk_asm.specs.Reading.{Draft, has_begun, nothing_read, row_at, place_of, parts, fresh_label, rest_at, labelled_at, line_at, with_label, with_know, know_line, with_statement, lines_at, forms_at, image_of, image_at}
 use Rattle.bk_asm.specs.Writing.{goes_to, label_text, label_line, know_line_text, form_line, places_text}
 use Rattle.bk_asm.proofs.Texts.{read_line, goes_on}
 use Rattle.bk_asm.proofs.Sentences.{marked, row, word_alone, word_quiet, spaced_quiet, row_is, line_again}
@@ -43,33 +44,39 @@ label_row p h =
 -- a label alone on its line, which no line defined before
 labelled : (labels : List Naming) (full known : Bool) (line end : ℕ) (word name : List ℕ) → place_of labels name ≡ None
     → labelled_at labels full known line (marked 1 word) (row [] end) (Some name)
-    ≡ Ok (record { label = Some name; know = None; does = None })
+    ≡ Ok (record { limit = None; label = Some name; know = None; does = None })
 unfolding labelled_at rest_at
 labelled labels full known line end w name e = rw e refl
 
 -- a line of one word, by the label that it is
-line_of_word : (labels : List Naming) (full known : Bool) (line end : ℕ) (word : List ℕ) (o : Option (List ℕ))
-    → Rattle.bk_asm.specs.Reading.label_of word ≡ o
-    → line_at labels full known line (row (marked 1 word ∷ []) end) (marked 1 word ∷ [])
+line_of_word : (labels : List Naming) (begun full known : Bool) (line end : ℕ) (word : List ℕ) (o : Option (List ℕ))
+    → bytes_eq word (codes "caches") ≡ false → Rattle.bk_asm.specs.Reading.label_of word ≡ o
+    → line_at labels begun full known line (row (marked 1 word ∷ []) end) (marked 1 word ∷ [])
     ≡ labelled_at labels full known line (marked 1 word) (row [] end) o
 unfolding line_at
-line_of_word labels full known line end w o e = ap (labelled_at labels full known line (marked 1 w) (row [] end)) e
+line_of_word labels begun full known line end w o other e =
+    rw other (ap (labelled_at labels full known line (marked 1 w) (row [] end)) e)
 
 -- the line of a label is read as that label
 label_line_read : (d : Draft) (p n : ℕ) → p < 256 → place_of d.labels (label_text p) ≡ None
-    → read_line d n (label_text p ++ codes ":") ≡ Ok (record { label = Some (label_text p); know = None; does = None })
+    → read_line d n (label_text p ++ codes ":") ≡ Ok (record { limit = None; label = Some (label_text p); know = None; does = None })
 label_line_read d p n lt none =
     let h = label_again p lt in
     let w = label_text p ++ codes ":" in
     let full = nat_le 256 (length d.statements) in
-    ap (λ (r : LineWords). line_at d.labels full (is_some d.know) n r r.words) (label_row p h)
-    ∙ line_of_word d.labels full (is_some d.know) n (length w + 1) w (Some (label_text p)) h.read
+    ap (λ (r : LineWords). line_at d.labels (has_begun d) full (is_some d.know) n r r.words) (label_row p h)
+    ∙ line_of_word d.labels (has_begun d) full (is_some d.know) n (length w + 1) w (Some (label_text p)) h.other h.read
     ∙ labelled d.labels full (is_some d.know) n (length w + 1) w (label_text p) none
 
 -- ---- what was read up to a place
 
+-- the limit that the text of an image gives: none where it is of version 1
+abbrev pub own_limit : Parts → Option ℕ
+own_limit x = cond (x.version == 1) None (Some x.limit)
+
 -- the first instructions of an image were read, and all that belongs to them
 pub record Stands (x : Parts) (p : ℕ) (front left : List Form) (back : List Line) (d : Draft) : Type 0 where
+  pub limit : d.limit ≡ own_limit x
   pub forms : x.instrs ≡ front ++ left
   pub place : length front ≡ p
   pub statements : AreOf d.statements front
@@ -85,6 +92,7 @@ record AfterLabel (x : Parts) (p n : ℕ) (d : Draft) (rest : List ℕ) : Type 0
   draft : Draft
   line : ℕ
   reads : lines_at d n (lines (label_line x.instrs p ++ rest)) ≡ lines_at draft line (lines rest)
+  limit : draft.limit ≡ d.limit
   statements : draft.statements ≡ d.statements
   knows : draft.knows ≡ d.knows
   know : draft.know ≡ d.know
@@ -113,7 +121,8 @@ label_step x p n front left back d rest lt h = elim (tested (list_any (goes_to p
         draft = with_label (Some name) d;
         line = n + 1;
         reads = ap (λ t. lines_at d n (lines t)) text ∙ ap (lines_at d n) (line_again w rest (word_quiet w (label_again p lt).defined))
-            ∙ goes_on d n w (lines rest) (record { label = Some name; know = None; does = None }) (label_line_read d p n lt none);
+            ∙ goes_on d n w (lines rest) (record { limit = None; label = Some name; know = None; does = None }) (label_line_read d p n lt none);
+        limit = refl;
         statements = refl;
         knows = refl;
         know = refl;
@@ -124,6 +133,7 @@ label_step x p n front left back d rest lt h = elim (tested (list_any (goes_to p
     draft = d;
     line = n;
     reads = ap (λ t. lines_at d n (lines (t ++ rest))) (label_text_is x.instrs p false none);
+    limit = refl;
     statements = refl;
     knows = refl;
     know = refl;
@@ -141,8 +151,8 @@ know_step (Some sets) d n rest h none =
     let full = nat_le 256 (length d.statements) in
     let quiet = spaced_quiet (know_words sets) (know_is_words sets mask) in
     let read : read_line d n (know_bytes sets) ≡ Ok (parts (Some sets) None) =
-    ap (λ (o : Option Sets). line_at d.labels full (is_some o) n (row_at (know_bytes sets)) (row_at (know_bytes sets)).words) none
-    ∙ know_read sets d.labels full n mask in (
+    ap (λ (o : Option Sets). line_at d.labels (has_begun d) full (is_some o) n (row_at (know_bytes sets)) (row_at (know_bytes sets)).words) none
+    ∙ know_read sets d.labels (has_begun d) full n mask in (
       n + 1,
       ap (λ t. lines_at d n (lines (t ++ rest))) (know_bytes_are sets) ∙ ap (lines_at d n) (line_again (know_bytes sets) rest quiet)
           ∙ goes_on d n (know_bytes sets) (lines rest) (parts (Some sets) None) read,
@@ -153,12 +163,12 @@ form_step : (f : Form) (d : Draft) (n : ℕ) (rest : List ℕ) → IsInRange f �
     → (statement : Statement) × (IsOf statement f)
     × (lines_at d n (lines (form_line f ++ rest)) ≡ lines_at (with_statement (Some statement) d) (n + 1) (lines rest))
 form_step f d n rest range few =
-    let r = form_read f d.labels (is_some d.know) n range in
+    let r = form_read f d.labels (has_begun d) (is_some d.know) n range in
     let statement = statement_of n r.0 (operation_of f) (fields_of f) in
     let room : nat_le 256 (length d.statements) ≡ false = grind (arith, nat_tests, few) in
     let quiet = spaced_quiet (form_words f) (form_is_words f range) in
     let read : read_line d n (form_bytes f) ≡ Ok (parts None (Some statement)) =
-    ap (λ full. line_at d.labels full (is_some d.know) n (row_at (form_bytes f)) (row_at (form_bytes f)).words) room ∙ r.1 in (
+    ap (λ full. line_at d.labels (has_begun d) full (is_some d.know) n (row_at (form_bytes f)) (row_at (form_bytes f)).words) room ∙ r.1 in (
       statement,
       (n, r.0, refl),
       ap (λ t. lines_at d n (lines (t ++ rest))) (form_bytes_are f range) ∙ ap (lines_at d n) (line_again (form_bytes f) rest quiet)
@@ -317,6 +327,7 @@ knows_kept ks front back more line e f = e ∙ ap (λ l. front ++ l) f ∙ sym (
 
 -- a know line changes what was read in nothing but what waits
 record KnowKept (o : Option Sets) (d : Draft) : Type 0 where
+  limit : (with_know o d).limit ≡ d.limit
   statements : (with_know o d).statements ≡ d.statements
   knows : (with_know o d).knows ≡ d.knows
   know : (with_know o d).know ≡ o
@@ -324,8 +335,8 @@ record KnowKept (o : Option Sets) (d : Draft) : Type 0 where
 
 -- so it is of each know line
 know_kept : (o : Option Sets) (d : Draft) → d.know ≡ None → KnowKept o d
-know_kept None d none = record { statements = refl; knows = refl; know = none; labels = refl }
-know_kept (Some s) d none = record { statements = refl; knows = refl; know = refl; labels = refl }
+know_kept None d none = record { limit = refl; statements = refl; knows = refl; know = none; labels = refl }
+know_kept (Some s) d none = record { limit = refl; statements = refl; knows = refl; know = refl; labels = refl }
 
 -- know lines by their parts
 knows_same : (ks ks' more : List Line) (a b : ℕ) (o o' : Option Sets) → ks' ≡ ks → b ≡ a → o' ≡ o
@@ -335,14 +346,15 @@ knows_same ks ks' more a b o o' e f g = rw (e, f, g) refl
 -- one more instruction, with its know line and its label
 stands_next : (x : Parts) (p : ℕ) (front left : List Form) (f : Form) (back : List Line) (d two : Draft) (statement : Statement)
     → (h : Stands x p front (f ∷ left) back d)
-    → two.statements ≡ d.statements → two.knows ≡ d.knows → two.know ≡ known x.knows p → AreLabels x.instrs (p + 1) two.labels
+    → two.limit ≡ d.limit → two.statements ≡ d.statements → two.knows ≡ d.knows → two.know ≡ known x.knows p → AreLabels x.instrs (p + 1) two.labels
     → IsOf statement f
     → (b : Behind (length x.instrs) p back)
     → Stands x (p + 1) (front ++ f ∷ []) left b.more (with_statement (Some statement) two)
-stands_next x p front left f back d two statement h statements knows know labels one b =
+stands_next x p front left f back d two statement h limit statements knows know labels one b =
     let place : length two.statements ≡ p = ap length statements ∙ same_length d.statements front h.statements ∙ h.place in
     let waited : two.know ≡ known back p = know ∙ h.later p (omega arith) in
     record {
+      limit = limit ∙ h.limit;
       forms = h.forms ∙ sym (append_assoc front (f ∷ []) left);
       place = length_push front f ∙ ap (λ k. k + 1) h.place;
       statements = subst (λ (ss : List Statement). AreOf (ss ++ statement ∷ []) (front ++ f ∷ [])) (sym statements)
@@ -382,6 +394,6 @@ place_step x p n front left f back d image range lt h =
       line = number.0 + 1;
       back = b.more;
       reads = (ap (λ t. lines_at d n (lines t)) text ∙ l.reads) ∙ (number.1 ∙ s.2);
-      stands = stands_next x p front left f back d two s.0 h statements (kept.knows ∙ l.knows) kept.know
+      stands = stands_next x p front left f back d two s.0 h (kept.limit ∙ l.limit) statements (kept.knows ∙ l.knows) kept.know
           (subst (λ (ls : List Naming). AreLabels x.instrs (p + 1) ls) (sym kept.labels) l.labels) s.1 b;
     }

@@ -162,6 +162,21 @@ row_words ws e =
     row_is (32 ∷ spaced ws) (spaced_quiet ws e)
     ∙ ap (λ l. row l (length (32 ∷ spaced ws) + 1)) (words_from-blank 1 32 (spaced ws) refl ∙ spaced_words 2 ws e)
 
+-- a line of words that begins with no blank
+pub bare_row : (word : List ℕ) (ws : List (List ℕ)) → list_all is_word (word ∷ ws) ≡ true
+    → (row_at (word ++ spaced ws) ≡ row (marked 1 word ∷ marks (length word + 2) ws) (length (word ++ spaced ws) + 1))
+    × (list_all is_quiet (word ++ spaced ws) ≡ true)
+bare_row word ws e =
+    let t = and_parts (is_word word) (list_all is_word ws) e in
+    let s = and_parts (is_nonempty word) (list_all is_plain word) t.0 in
+    let quiet = all_append is_quiet word (spaced ws) (word_quiet word t.0) (spaced_quiet ws t.1) in
+    let column : (1 + length word) + 1 ≡ length word + 2 = omega arith in (
+      row_is (word ++ spaced ws) quiet
+          ∙ ap (λ l. row l (length (word ++ spaced ws) + 1)) (word_first 1 word (spaced ws) s.0 s.1 (spaced_ends ws)
+          ∙ ap (λ l. marked 1 word ∷ l) (spaced_words (1 + length word) ws t.1 ∙ ap (λ k. marks k ws) column)),
+      quiet,
+    )
+
 -- a line that LF ends
 pub line_again : (bytes rest : List ℕ) → list_all is_quiet bytes ≡ true
     → lines ((bytes ++ 10 ∷ []) ++ rest) ≡ bytes ∷ lines rest

@@ -21,7 +21,7 @@ use Rattle.bk_asm.specs.Faults.{At}
 use Rattle.bk_asm.specs.Names.{Naming}
 use Rattle.bk_asm.specs.Drafts.{IsDraft}
 use Rattle.bk_asm.specs.Programs.{Statement, LineParts}
-use Rattle.bk_asm.specs.Reading.{Draft, place_of}
+use Rattle.bk_asm.specs.Reading.{Draft, place_of, has_begun, with_limit}
 use Rattle.bk_asm.specs.Reading.{line_at, on_line, comment_mark, row_at, with_label, with_know}
 use Rattle.bk_asm.specs.Reading.{with_statement, know_line, after, lines_at}
 use Rattle.bk_asm.specs.Spelled.{label_in}
@@ -29,7 +29,7 @@ use Rattle.bk_asm.proofs.Drafted.{statement_draft, label_draft}
 use Rattle.bk_asm.proofs.LabelsAgain.{place_inserted}
 use Rattle.bk_asm.proofs.SpelledWords.{bound, ok_is, some_is, first, later}
 use Rattle.bk_asm.proofs.SpelledLine.{Stated, Empty, Mask, Does, StatedLine, know_of, does_of, line_parts, SpellsStatedLine, IsAllowed}
-use Rattle.bk_asm.proofs.SpelledLine.{IsFresh, line_spelled}
+use Rattle.bk_asm.proofs.SpelledLine.{IsFresh, IsFirst, line_spelled}
 
 -- ---- lines, one after the other
 
@@ -39,9 +39,10 @@ Follows d [] [] e = d ≡ e
 Follows d [] (s ∷ more) e = ⊥
 Follows d (text ∷ texts) [] e = ⊥
 Follows d (text ∷ texts) (s ∷ more) e =
-    SpellsStatedLine (words_of comment_mark text) s.label s.content
+    SpellsStatedLine (words_of comment_mark text) s.limit s.label s.content
     × IsAllowed (nat_le 256 (length d.statements)) (is_some d.know) s.content × IsFresh d.labels s.label
-    × Follows (after (line_parts s.label s.content) d) texts more e
+    × IsFirst (has_begun d) s.limit
+    × Follows (after (line_parts s.limit s.label s.content) d) texts more e
 
 on_line_is : {X : Type 0} (line : ℕ) (r : Result X At) (x : X) → on_line line r ≡ Ok x → r ≡ Ok x
 on_line_is line (Ok y) x e = ap Ok (ok_is y x e)
@@ -55,15 +56,16 @@ lines_follow d line [] e h = ([], ok_is d e h)
 lines_follow d line (text ∷ texts) e h =
     let full = nat_le 256 (length d.statements) in
     let known = is_some d.know in
-    let read = line_at d.labels full known line (row_at text) (row_at text).words in
+    let read = line_at d.labels (has_begun d) full known line (row_at text) (row_at text).words in
     let one = bound (on_line line read) (λ parts. lines_at (after parts d) (line + 1) texts) e h in
-    let l = line_spelled d.labels full known line (row_at text) (row_at text).words one.0 (on_line_is line read one.0 one.1) in
+    let l = line_spelled d.labels (has_begun d) full known line (row_at text) (row_at text).words one.0 (on_line_is line read one.0 one.1) in
     let more = lines_follow (after one.0 d) (line + 1) texts e one.2 in (
-      record { label = l.label; content = l.content } ∷ more.0,
+      record { limit = l.limit; label = l.label; content = l.content } ∷ more.0,
       (
-        subst (λ (ws : List (List ℕ)). SpellsStatedLine ws l.label l.content) (sym (words_in_line comment_mark text)) l.spelled,
+        subst (λ (ws : List (List ℕ)). SpellsStatedLine ws l.limit l.label l.content) (sym (words_in_line comment_mark text)) l.spelled,
         l.allowed,
         l.fresh,
+        l.first,
         subst (λ (p : LineParts). Follows (after p d) texts more.0 e) l.is more.1,
       ),
     )
@@ -198,7 +200,7 @@ content_step (Mask sets) d statements knows labels e allowed h = record {
   knows = h.knows ∙ ap (λ o. d.knows ++ (know_line (length d.statements) o ++ ((length d.statements, sets) ∷ knows)))
       (sym (none_waits d.know allowed));
   labels = h.labels;
-  draft = λ is. h.draft (record { few = is.few; lines = is.lines; labels = is.labels });
+  draft = λ is. h.draft (record { limit = is.limit; few = is.few; lines = is.lines; labels = is.labels });
 }
 content_step (Does s) d statements knows labels e allowed h = record {
   statements = h.statements ∙ append_assoc d.statements (s ∷ []) statements;
@@ -222,6 +224,29 @@ count_after Empty d = omega arith
 count_after (Mask sets) d = omega arith
 count_after (Does s) d = length_push d.statements s
 
+-- a limit leaves all else as it is
+limit_step : (limit : Option ℕ) (d : Draft) (begun : Bool) (statements : List Statement) (knows : ℕ → List Line)
+    (labels : ℕ → List Naming) (e : Draft) → IsFirst begun limit
+    → Leaves (with_limit limit d) statements (knows (length (with_limit limit d).statements))
+    (labels (length (with_limit limit d).statements)) e
+    → Leaves d statements (knows (length d.statements)) (labels (length d.statements)) e
+limit_step None d begun statements knows labels e first h = h
+limit_step (Some limit) d begun statements knows labels e first h = record {
+  statements = h.statements;
+  knows = h.knows;
+  labels = h.labels;
+  draft = λ is. h.draft (record { limit = (first.1, first.2); few = is.few; lines = is.lines; labels = is.labels });
+}
+
+allowed_led : (limit : Option ℕ) (d : Draft) (c : Stated) → IsAllowed (nat_le 256 (length d.statements)) (is_some d.know) c
+    → IsAllowed (nat_le 256 (length (with_limit limit d).statements)) (is_some (with_limit limit d).know) c
+allowed_led None d c h = h
+allowed_led (Some limit) d c h = h
+
+fresh_led : (limit : Option ℕ) (d : Draft) (label : Option (List ℕ)) → IsFresh d.labels label → IsFresh (with_limit limit d).labels label
+fresh_led None d label h = h
+fresh_led (Some limit) d label h = h
+
 -- The lines leave their instructions, their know lines and their labels: a line's label and its know line have the place of the
 -- next instruction, which is the count of the instructions before it.
 pub leaves : (d : Draft) (texts : List (List ℕ)) (ss : List StatedLine) (e : Draft) → Follows d texts ss e
@@ -235,17 +260,21 @@ leaves d [] [] e h = subst (λ (e : Draft). Leaves d [] [] [] e) h (record {
 leaves d [] (s ∷ ss) e h = absurd h
 leaves d (text ∷ texts) [] e h = absurd h
 leaves d (text ∷ texts) (s ∷ ss) e h =
-    let start = with_label s.label d in
+    let led = with_limit s.limit d in
+    let start = with_label s.label led in
     let next = with_content s.content start in
-    let count : length next.statements ≡ length d.statements + length (stated_in s.content) =
-    count_after s.content start ∙ ap (λ n. n + length (stated_in s.content)) (label_keeps s.label d) in
-    let place = length d.statements + length (stated_in s.content) in
+    let count : length next.statements ≡ length led.statements + length (stated_in s.content) =
+    count_after s.content start ∙ ap (λ n. n + length (stated_in s.content)) (label_keeps s.label led) in
+    let place = length led.statements + length (stated_in s.content) in
     let rest = subst (λ (p : ℕ). Leaves next (statements_in ss) (stated_knows p ss) (stated_labels p ss) e) count
-    (leaves next texts ss e h.3) in
+    (leaves next texts ss e h.4) in
     let content = content_step s.content start (statements_in ss) (stated_knows place ss) (stated_labels place ss) e
-    (allowed_still s.label d s.content h.1) rest in
-    label_step s.label d (stated_in s.content ++ statements_in ss)
-    (stated_know (length d.statements) s.content ++ stated_knows place ss) (stated_labels place ss) e h.2
+    (allowed_still s.label led s.content (allowed_led s.limit d s.content h.1)) rest in
+    limit_step s.limit d (has_begun d) (stated_in s.content ++ statements_in ss)
+    (λ p. stated_know p s.content ++ stated_knows (p + length (stated_in s.content)) ss)
+    (λ p. label_in p s.label ++ stated_labels (p + length (stated_in s.content)) ss) e h.3
+    (label_step s.label led (stated_in s.content ++ statements_in ss)
+    (stated_know (length led.statements) s.content ++ stated_knows place ss) (stated_labels place ss) e (fresh_led s.limit d s.label h.2)
     (subst (λ (p : ℕ). Leaves start (stated_in s.content ++ statements_in ss) (stated_know p s.content ++ stated_knows place ss)
     (stated_labels place ss) e)
-    (label_keeps s.label d) content)
+    (label_keeps s.label led) content))

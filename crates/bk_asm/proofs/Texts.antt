@@ -10,10 +10,11 @@ use Rattle.bk_asm.specs.Faults.{At, bad, fault_of, Fails}
 use Rattle.bk_asm.specs.declared.fault.AsmFault.{AsmFault}
 use Rattle.bk_asm.specs.Names.{Naming}
 use Rattle.bk_asm.specs.Programs.{Statement, LineParts}
-use Rattle.bk_asm.specs.Reading.{Draft, row_at, line_at, after, lines_at, form_at, forms_at, nothing_read, image_of, image_at}
+use Rattle.bk_asm.specs.Reading.{Draft, has_begun, row_at, line_at, after, lines_at, form_at, forms_at, nothing_read, image_of, image_at}
 
 abbrev pub read_line : Draft → ℕ → List ℕ → Result LineParts At
-read_line d line text = line_at d.labels (nat_le 256 (length d.statements)) (is_some d.know) line (row_at text) (row_at text).words
+read_line d line text =
+    line_at d.labels (has_begun d) (nat_le 256 (length d.statements)) (is_some d.know) line (row_at text) (row_at text).words
 
 pub goes_on : (d : Draft) (line : ℕ) (text : List ℕ) (texts : List (List ℕ)) (parts : LineParts)
     → read_line d line text ≡ Ok parts

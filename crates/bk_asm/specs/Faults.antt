@@ -20,6 +20,7 @@ kind_code kinds.Know = 27
 kind_code kinds.WithoutInstruction = 28
 kind_code kinds.NoInstruction = 29
 kind_code kinds.TooMany = 30
+kind_code kinds.Caches = 31
 
 -- what is wrong with a line, and in which column
 abbrev pub At : Type 0

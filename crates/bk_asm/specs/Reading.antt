@@ -1,6 +1,6 @@
 -- Reading a text of microcode: what each line is, by its words, and the first fault.
 -- A line's readers answer a value and what is left of the line.
-use Rattle.std.specs.Prelude.{ℕ, ◌+◌, ◌-◌, ◌/◌, ◌%◌, ◌^◌, ◌==◌, Bool, true, false, ◌&&◌, ◌||◌, List, [], ◌∷◌, ◌++◌, length, max, Option, Some, None, Result, Ok, Err, codes, nat_lt, nat_le, bit_or, is_some, option_and_then, if◌then◌else◌, slice_index, take}
+use Rattle.std.specs.Prelude.{ℕ, ◌+◌, ◌-◌, ◌/◌, ◌%◌, ◌^◌, ◌==◌, Bool, true, false, not, ◌&&◌, ◌||◌, List, [], ◌∷◌, ◌++◌, length, max, Option, Some, None, Result, Ok, Err, codes, nat_lt, nat_le, bit_or, is_some, option_and_then, if◌then◌else◌, slice_index, take}
 use Rattle.std.specs.Option.{option_map}
 use Rattle.std.specs.List.{list_all}
 use Rattle.std.specs.Ordering.{nat_cmp}
@@ -21,7 +21,7 @@ use Rattle.bk_text.specs.Faults.{◌>>=◌, Bad, at, word_in, or_wrong, next_fie
 use Rattle.bk_asm.specs.Names.{Naming, named, joined, cut_at, value_names, class_names, names_of}
 use Rattle.bk_asm.specs.Operations.{slots_of, mnemonics, pushed, operation_named}
 use Rattle.bk_asm.specs.Faults.{At, kind_code, bad}
-use Rattle.bk_asm.specs.Programs.{Use, Statement, LineParts, form_with}
+use Rattle.bk_asm.specs.Programs.{Use, Statement, LineParts, form_with, version_of, limit_or_first}
 use Rattle.bk_asm.specs.declared.names.Names.TheVariants as names
 use Rattle.bk_asm.specs.declared.operation.Operation.{Operation}
 use Rattle.bk_asm.specs.declared.slots.Slot.{Slot}
@@ -174,9 +174,10 @@ know_at row = field kinds.Know kinds.Know base_of row >>= λ base. entries_at ba
 
 -- ---- lines
 
--- What was read so far: the instructions; the know lines with their places; the labels with theirs, in the order of their
+-- What was read so far: the limit; the instructions; the know lines with their places; the labels with theirs, in the order of their
 -- names; and whether a know line and a label still wait for their instruction.
 pub record Draft : Type 0 where
+  pub limit : Option ℕ
   pub statements : List Statement
   pub knows : List Line
   pub labels : List Naming
@@ -184,14 +185,29 @@ pub record Draft : Type 0 where
   pub waits : Bool
 
 abbrev pub nothing_read : Draft
-nothing_read = record { statements = []; knows = []; labels = []; know = None; waits = false }
+nothing_read = record { limit = None; statements = []; knows = []; labels = []; know = None; waits = false }
 
 -- the place of a label
 abbrev pub place_of : List Naming → List ℕ → Option ℕ
 place_of labels name = lookup (λ other. bytes_eq name other) labels
 
 abbrev pub parts : Option Sets → Option Statement → LineParts
-parts know does = record { label = None; know = know; does = does }
+parts know does = record { limit = None; label = None; know = know; does = does }
+
+-- the limit that a word names, from 1 to 16
+unfoldable pub limit_of : List ℕ → Option ℕ
+limit_of word = option_and_then (λ n. if nat_le 1 n && nat_le n 16 then Some n else None) (number_of word)
+
+abbrev pub limit_in : ℕ → Option ℕ → Result ℕ At
+limit_in column None = Err (at column kinds.Caches)
+limit_in column (Some limit) = Ok limit
+
+-- What stands behind the word `caches` in a column: a limit, where nothing was read before. Without it the fault stands at that word.
+unfoldable pub caches_at : Bool → ℕ → LineWords → List Marked → Result LineParts At
+caches_at begun column row [] = Err (at column kinds.Caches)
+caches_at begun column row (w ∷ words) =
+    limit_in column (if begun then None else limit_of w.word) >>= λ limit.
+    done (record row { words = words }) (record { limit = Some limit; label = None; know = None; does = None })
 
 -- The word `know` or a mnemonic. An instruction has one know line at most, and an image 256 instructions.
 unfoldable pub content_at : Bool → Bool → ℕ → Marked → LineWords → Result LineParts At
@@ -217,10 +233,12 @@ labelled_at labels full known line marked row (Some name) = do
   content ← rest_at full known line row row.words
   Ok (record content { label = Some label })
 
--- a line
-unfoldable pub line_at : List Naming → Bool → Bool → ℕ → LineWords → List Marked → Result LineParts At
-line_at labels full known line row [] = done row (parts None None)
-line_at labels full known line row (w ∷ words) = labelled_at labels full known line w (record row { words = words }) (label_of w.word)
+-- a line; a `caches` line is one whose first word is that
+unfoldable pub line_at : List Naming → Bool → Bool → Bool → ℕ → LineWords → List Marked → Result LineParts At
+line_at labels begun full known line row [] = done row (parts None None)
+line_at labels begun full known line row (w ∷ words) =
+    if bytes_eq w.word (codes "caches") then caches_at begun w.column (record row { words = words }) words
+    else labelled_at labels full known line w (record row { words = words }) (label_of w.word)
 
 -- ---- texts
 
@@ -233,6 +251,14 @@ comment_mark = 59
 
 abbrev pub row_at : List ℕ → LineWords
 row_at text = whole_line comment_mark text
+
+-- whether something was read: before the first instruction a label or a know line waits for it
+abbrev pub has_begun : Draft → Bool
+has_begun d = is_some d.limit || d.waits || is_some d.know || not (length d.statements == 0)
+
+abbrev pub with_limit : Option ℕ → Draft → Draft
+with_limit None d = d
+with_limit (Some limit) d = record d { limit = Some limit }
 
 -- a label stands for the place of the next instruction
 abbrev pub with_label : Option (List ℕ) → Draft → Draft
@@ -253,6 +279,7 @@ know_line place (Some sets) = (place, sets) ∷ []
 abbrev pub with_statement : Option Statement → Draft → Draft
 with_statement None d = d
 with_statement (Some s) d = record {
+  limit = d.limit;
   statements = d.statements ++ s ∷ [];
   knows = d.knows ++ know_line (length d.statements) d.know;
   labels = d.labels;
@@ -262,13 +289,14 @@ with_statement (Some s) d = record {
 
 -- what was read with one more line
 abbrev pub after : LineParts → Draft → Draft
-after line d = with_statement line.does (with_know line.know (with_label line.label d))
+after line d = with_statement line.does (with_know line.know (with_label line.label (with_limit line.limit d)))
 
 -- the lines of a text, of which the first has a number, behind what was read before
 unfoldable pub lines_at : Draft → ℕ → List (List ℕ) → Result Draft Bad
 lines_at d line [] = Ok d
 lines_at d line (text ∷ texts) = do
-  parts ← on_line line (line_at d.labels (nat_le 256 (length d.statements)) (is_some d.know) line (row_at text) (row_at text).words)
+  parts ← on_line line
+      (line_at d.labels (has_begun d) (nat_le 256 (length d.statements)) (is_some d.know) line (row_at text) (row_at text).words)
   lines_at (after parts d) (line + 1) texts
 
 abbrev pub defined_at : ℕ → Option ℕ → Result ℕ At
@@ -297,7 +325,8 @@ unfoldable pub image_of : ℕ → Draft → Result Parts Bad
 image_of last d =
     if d.waits || is_some d.know then Err (bad last (at 1 kinds.WithoutInstruction))
     else if length d.statements == 0 then Err (bad last (at 1 kinds.NoInstruction))
-    else (forms_at d.labels d.statements >>= λ forms. Ok (record { instrs = forms; knows = d.knows }))
+    else (forms_at d.labels d.statements >>= λ forms.
+    Ok (record { version = version_of d.limit; limit = limit_or_first d.limit; instrs = forms; knows = d.knows }))
 
 -- the image that a text spells, or its first fault; an empty text counts as one line
 unfoldable pub image_at : List ℕ → Result Parts Bad

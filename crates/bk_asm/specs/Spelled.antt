@@ -1,7 +1,7 @@
 -- What a text of microcode spells: what each of its lines says, and the image that these make.
 -- It says which image a text means. Which texts have a fault, as a comment with a byte that is none of a text, and which fault
 -- that is, the reader says (Reading); an image that it gives is the one that is spelled here.
-use Rattle.std.specs.Prelude.{◌≡◌, ℕ, ◌+◌, ◌/◌, ◌%◌, ◌^◌, ◌<◌, ◌==◌, true, List, [], ◌∷◌, ◌++◌, length, map, Option, Some, None, codes, unwrap_or}
+use Rattle.std.specs.Prelude.{◌≡◌, ◌⊎◌, ℕ, ◌+◌, ◌/◌, ◌%◌, ◌^◌, ◌<◌, ◌==◌, true, List, [], ◌∷◌, ◌++◌, length, map, Option, Some, None, codes, unwrap_or, is_some, if◌then◌else◌}
 use Rattle.std.specs.List.{AllZip, AllByRecursion, Contains, IsDistinct, slice_split}
 use Rattle.std.specs.Map.{lookup}
 use Rattle.std.specs.Str.{bytes_eq}
@@ -10,10 +10,11 @@ use Rattle.bk_isa.specs.declared.form.Form.{Form}
 use Rattle.bk_isa.specs.Fields.{fields_of}
 use Rattle.bk_know.specs.declared.sets.Sets.{Sets}
 use Rattle.bk_know.specs.Sets.{idle_base, held_base, field}
-use Rattle.bk_image.specs.Images.{Parts, Line, IsWhole}
+use Rattle.bk_image.specs.Images.{Parts, Line, AreParts}
 use Rattle.bk_text.specs.Texts.{number_of, words_of}
 use Rattle.bk_asm.specs.Names.{Naming, value_names, class_names, names_of}
 use Rattle.bk_asm.specs.Operations.{slots_of}
+use Rattle.bk_asm.specs.Programs.{version_of, limit_or_first}
 use Rattle.bk_asm.specs.Mnemonics.{mnemonic, operation_of}
 use Rattle.bk_asm.specs.Reading.{is_label, comment_mark}
 use Rattle.bk_asm.specs.declared.names.Names.TheVariants as names
@@ -30,8 +31,9 @@ pub data Content : Type 0 where
   Know : (sets : Sets) → Content
   Instruction : (form : Form) → Content
 
--- what a line says
+-- what a line says: a limit, or else a label and a content
 pub record Sentence : Type 0 where
+  pub limit : Option ℕ
   pub label : Option (List ℕ)
   pub content : Content
 
@@ -61,6 +63,19 @@ know_in place content = []
 abbrev pub knows_in : ℕ → List Sentence → List Line
 knows_in place [] = []
 knows_in place (s ∷ more) = know_in place s.content ++ knows_in (place + length (form_in s.content)) more
+
+-- the limit, which some line gives
+abbrev pub limit_from : List Sentence → Option ℕ
+limit_from [] = None
+limit_from (s ∷ more) = if is_some s.limit then s.limit else limit_from more
+
+abbrev pub SaysNothing : Sentence → Type 0
+SaysNothing s = (s.limit ≡ None) × (s.label ≡ None) × (s.content ≡ Nothing)
+
+-- a limit is given by the first line that says something alone
+abbrev pub IsLed : List Sentence → Type 0
+IsLed [] = Unit {0}
+IsLed (s ∷ more) = (SaysNothing s × IsLed more) ⊎ (limit_from more ≡ None)
 
 -- ---- the words of an instruction
 
@@ -139,21 +154,36 @@ SpellsContent labels words Nothing = words ≡ []
 SpellsContent labels words (Know sets) = SpellsKnow words sets
 SpellsContent labels words (Instruction form) = SpellsForm labels words form
 
--- the words of a line: a label and `:`, where it has one, and what stands behind that
-abbrev pub SpellsSentence : List Naming → List (List ℕ) → Option (List ℕ) → Content → Type 0
-SpellsSentence labels words None content = SpellsContent labels words content
-SpellsSentence labels [] (Some name) content = ⊥
-SpellsSentence labels (word ∷ words) (Some name) content = (word ≡ name ++ codes ":") × (is_label name ≡ true)
+-- the words of a line without a limit: a label and `:`, where it has one, and what stands behind that
+abbrev pub SpellsLabelled : List Naming → List (List ℕ) → Option (List ℕ) → Content → Type 0
+SpellsLabelled labels words None content = SpellsContent labels words content
+SpellsLabelled labels [] (Some name) content = ⊥
+SpellsLabelled labels (word ∷ words) (Some name) content = (word ≡ name ++ codes ":") × (is_label name ≡ true)
     × SpellsContent labels words content
 
+-- the words of a line that gives a limit
+pub record SpellsLimit (words : List (List ℕ)) (limit : ℕ) : Type 0 where
+  pub number : List ℕ
+  pub words-are : words ≡ codes "caches" ∷ number ∷ []
+  pub named : number_of number ≡ Some limit
+
+-- the words of a line
+abbrev pub SpellsSentence : List Naming → List (List ℕ) → Option ℕ → Option (List ℕ) → Content → Type 0
+SpellsSentence labels words (Some limit) label content = SpellsLimit words limit × (label ≡ None) × (content ≡ Nothing)
+SpellsSentence labels words None label content = SpellsLabelled labels words label content
+
 -- An image is spelled by the text whose lines say this. Each label is defined once, and an instruction follows each label
--- and each know line, of which an instruction has one at most.
+-- and each know line, of which an instruction has one at most. A limit is given before all else, and once; without it the image is
+-- of version 1.
 pub record Spells (text : List ℕ) (image : Parts) : Type 0 where
   pub sentences : List Sentence
-  pub lines : AllZip (λ line s. SpellsSentence (labels_in 0 sentences) (words_of comment_mark line) s.label s.content)
+  pub lines : AllZip (λ line s. SpellsSentence (labels_in 0 sentences) (words_of comment_mark line) s.limit s.label s.content)
       (lines text) sentences
+  pub led : IsLed sentences
+  pub version : image.version ≡ version_of (limit_from sentences)
+  pub limit : image.limit ≡ limit_or_first (limit_from sentences)
   pub instrs : image.instrs ≡ forms_in sentences
   pub knows : image.knows ≡ knows_in 0 sentences
-  pub whole : IsWhole image.instrs image.knows
+  pub parts : AreParts image
   pub once : IsDistinct bytes_eq (map (λ l. l.0) (labels_in 0 sentences))
   pub placed : AllByRecursion (λ (l : Naming). l.1 < length image.instrs) (labels_in 0 sentences)

@@ -116,6 +116,10 @@ abbrev pub places_text : Parts → ℕ → List Form → List ℕ
 places_text x place [] = []
 places_text x place (f ∷ more) = place_text x place f ++ places_text x (place + 1) more
 
+-- the line of the limit, which an image of version 1 doesn't have
+unfoldable pub caches_line : ℕ → ℕ → List ℕ
+caches_line version limit = if version == 1 then [] else codes "caches " ++ decimal limit ++ codes "\n"
+
 -- the text of an image
 abbrev pub spelling : Parts → List ℕ
-spelling x = places_text x 0 x.instrs
+spelling x = caches_line x.version x.limit ++ places_text x 0 x.instrs

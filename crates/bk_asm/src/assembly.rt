@@ -1,4 +1,4 @@
-ghost use Rattle.std.specs.Prelude.{◌≡◌, ◌<◌, length, max, IfOk, IfSome};
+ghost use Rattle.std.specs.Prelude.{◌≡◌, ◌<◌, ◌≤◌, length, max, IfOk, IfSome};
 ghost use Rattle.std.specs.Option.{option_map};
 ghost use Rattle.bk_asm.specs.Faults.{Gives};
 ghost use Rattle.bk_asm.specs.Reading.{after, image_at};
@@ -16,15 +16,22 @@ const COMMENT: u8 = b';';
 
 /// What was read with one more line. There is room for its instruction, if it has one.
 fn after<'a>(draft: Draft<'a>, line: Line<'a>) -> Result<Draft<'a>, AllocError>
-    requires { IfSome line.does (λ _. length draft.statements < 256) }
+    requires room { IfSome line.does (λ _. length draft.statements < 256) }
+    requires limit { IfSome line.limit (λ n. (1 ≤ n) × (n ≤ 16)) }
     ensures { IfOk result (λ d. d ≡ after (record {
+      limit = line.entry.limit;
       label = option_map (λ w. w.now) line.entry.label;
       know = line.entry.know;
       does = line.entry.does;
     }) draft.entry) }
 {
-    let Line { label, know, does } = line;
-    let mut draft = draft;
+    let Line {
+        limit,
+        label,
+        know,
+        does,
+    } = line;
+    let mut draft = draft.with_limit(limit);
     if let Some(name) = label {
         draft = draft.with_label(name)?;
     }

@@ -1,5 +1,5 @@
-ghost use Rattle.std.specs.Prelude.{◌≡◌, ◌<◌, ◌++◌, length, nat_le, is_some, false, Some, IfOk};
-ghost use Rattle.bk_asm.specs.Reading.{nothing_read, with_label, with_know, with_statement, know_line, form_at, forms_at, image_of};
+ghost use Rattle.std.specs.Prelude.{◌≡◌, ◌<◌, ◌≤◌, ◌++◌, length, nat_le, is_some, false, Some, IfOk, IfSome};
+ghost use Rattle.bk_asm.specs.Reading.{nothing_read, has_begun, with_limit, with_label, with_know, with_statement, know_line, form_at, forms_at, image_of};
 ghost use Rattle.bk_text.specs.Faults.{at};
 ghost use Rattle.bk_asm.specs.Faults.{Gives};
 
@@ -7,7 +7,7 @@ use crate::fault::{AsmFault, At, Kind, on_line};
 use crate::labels::Labels;
 use crate::line::Before;
 use crate::statement::Statement;
-use bk_image::{INSTRUCTION_LIMIT, Image};
+use bk_image::{FIRST_LIMIT, FIRST_VERSION, INSTRUCTION_LIMIT, Image, SECOND_VERSION};
 use bk_isa::Instr;
 use bk_know::Know;
 use std::alloc::{AllocError, Global};
@@ -16,6 +16,7 @@ use std::marker::Model;
 /// What was read of a text so far. Contracts see its parts.
 #[derive(Drop)]
 pub(crate) struct Draft<'a> {
+    limit: Option<u8>,
     statements: Vec<Statement<'a>>,
     knows: Vec<(u32, Know)>,
     pub labels: Labels<'a>,
@@ -32,6 +33,7 @@ impl<'a> Model for Draft<'a> {
     ghost Value = { Parts };
 
     ghost view = { λ d. record {
+      limit = d.limit;
       statements = d.statements.items;
       knows = d.knows.items;
       labels = d.labels;
@@ -40,6 +42,7 @@ impl<'a> Model for Draft<'a> {
     } };
 
     ghost invariant = { λ d. IsDraft (record {
+      limit = d.limit;
       statements = d.statements.items;
       knows = d.knows.items;
       labels = d.labels;
@@ -54,6 +57,7 @@ impl<'a> Draft<'a> {
         ensures { result ≡ nothing_read }
     {
         Draft {
+            limit: None,
             statements: Vec::new(alloc),
             knows: Vec::new(alloc),
             labels: Labels::new(alloc),
@@ -64,11 +68,28 @@ impl<'a> Draft<'a> {
 
     /// What is left open for the next line.
     pub fn before(&self) -> Before
-        ensures { result ≡ record { full = nat_le 256 (length self.now.statements); known = is_some self.now.know } }
+        ensures { result
+            ≡ record { begun = has_begun self.now; full = nat_le 256 (length self.now.statements); known = is_some self.now.know } }
     {
         Before {
+            begun: self.limit.is_some()
+                || self.waits
+                || self.know.is_some()
+                || !self.statements.is_empty(),
             full: self.statements.len() >= INSTRUCTION_LIMIT as usize,
             known: self.know.is_some(),
+        }
+    }
+
+    /// With a limit, if a line gives one.
+    pub fn with_limit(self, limit: Option<u8>) -> Draft<'a>
+        requires { IfSome limit (λ n. (1 ≤ n) × (n ≤ 16)) }
+        ensures value { result ≡ with_limit limit self.entry }
+        ensures kept { length result.statements ≡ length self.entry.statements }
+    {
+        match limit {
+            None => self,
+            Some(_) => Draft { limit, ..self },
         }
     }
 
@@ -77,6 +98,7 @@ impl<'a> Draft<'a> {
         ensures { IfOk result (λ d. d ≡ with_label (Some name.now) self.entry) }
     {
         let Draft {
+            limit,
             statements,
             knows,
             mut labels,
@@ -85,6 +107,7 @@ impl<'a> Draft<'a> {
         } = self;
         labels.define(name, statements.len() as u32)?;
         Ok(Draft {
+            limit,
             statements,
             knows,
             labels,
@@ -109,6 +132,7 @@ impl<'a> Draft<'a> {
         ensures { IfOk result (λ d. d ≡ with_statement (Some statement.entry) self.entry) }
     {
         let Draft {
+            limit,
             mut statements,
             knows,
             labels,
@@ -118,6 +142,7 @@ impl<'a> Draft<'a> {
         let knows = with_line(knows, statements.len() as u32, know)?;
         statements.push(statement)?;
         Ok(Draft {
+            limit,
             statements,
             knows,
             labels,
@@ -175,7 +200,11 @@ impl<'a> Draft<'a> {
             return Err(on_line(last, start(Kind::NoInstruction)));
         }
         let forms = self.forms(alloc)?;
-        match Image::make(forms, self.knows) {
+        let (version, limit) = match self.limit {
+            None => (FIRST_VERSION, FIRST_LIMIT),
+            Some(limit) => (SECOND_VERSION, limit),
+        };
+        match Image::make(version, limit, forms, self.knows) {
             Some(image) => Ok(image),
             None => unreachable!(),
         }

@@ -32,6 +32,8 @@ pub enum Kind {
     NoInstruction,
     /// The text has more than 256 instructions.
     TooMany,
+    /// A `caches` line is repeated or misplaced, or its number is missing or not 1 to 16.
+    Caches,
 }
 
 impl Kind {
@@ -51,6 +53,7 @@ impl Kind {
             Kind::WithoutInstruction => 28,
             Kind::NoInstruction => 29,
             Kind::TooMany => 30,
+            Kind::Caches => 31,
         }
     }
 }

@@ -2,6 +2,7 @@
 #![tactic(auto)]
 
 mod assembly;
+mod caches;
 mod draft;
 mod fault;
 mod know;

@@ -87,15 +87,33 @@ fn faults(rt: HostRuntime) {
         ("a: nop\nknow idle\na: know idle\nnop\n", [3, 1, 25]),
         ("know idle\nb: know idle\nnop\n", [2, 4, 27]),
         ("bi 5\n", [1, 4, 22]),
+        ("caches 16\n", [1, 1, 29]),
+        ("caches\nnop\n", [1, 1, 31]),
+        ("caches ; \x01\nnop\n", [1, 1, 31]),
+        ("caches 0\nnop\n", [1, 1, 31]),
+        ("\n  caches 17 x\nnop\n", [2, 3, 31]),
+        ("caches x\nnop\n", [1, 1, 31]),
+        ("nop\ncaches 4\n", [2, 1, 31]),
+        ("caches 4\ncaches 4\nnop\n", [2, 1, 31]),
+        ("a:\ncaches 4\nnop\n", [2, 1, 31]),
+        ("know idle\ncaches 4 5\nnop\n", [2, 1, 31]),
+        ("caches 4 5\nnop\n", [1, 10, 24]),
+        ("caches 4 ; \x01\nnop\n", [1, 12, 20]),
+        ("a: caches 4\nnop\n", [1, 4, 21]),
+        ("caches: caches 4\nnop\n", [1, 9, 21]),
     ] {
         assert_eq!(rt; fault_of(&rt, text.as_bytes()), Some(place), "{text:?}");
     }
 }
 
-/// The bytes of the image of a text behind its first 16, by hexadecimal digits.
+/// The limit that the header of an image of version 2 gives, by two hexadecimal digits, and the bytes of the image of a text behind
+/// its first 16.
 fn digits_of(rt: &HostRuntime, text: &str) -> Result<String, Fail> {
     let image = assemble(rt.alloc(), text.as_bytes())?;
     let mut digits = String::new(rt.alloc());
+    if image.version() == 2 {
+        write!(digits, "{:02x} ", image.limit())?;
+    }
     for byte in &write_image(rt.alloc(), &image)?[16..] {
         write!(digits, "{byte:02x}")?;
     }
@@ -127,6 +145,9 @@ fn images(rt: HostRuntime) -> Result<(), Fail> {
             "00000000000000000000000011282408552208ff",
         ),
         ("nop", "0000000000000000"),
+        ("; c\n\n\tcaches 0x10 ; c\nnop", "10 0000000000000000"),
+        ("caches 1\nfin", "01 0000000000000044"),
+        ("caches 8\ncaches: nop", "08 0000000000000000"),
         ("nop;x\n", "0000000000000000"),
         ("movi r3 0xFf\n", "ff0000000000030c"),
         ("nop\n", "0000000000000000"),
@@ -194,6 +215,7 @@ fn canonical(rt: &HostRuntime, text: &str, canonical: &str) -> Result<bool, Fail
 fn canonical_texts(rt: HostRuntime) -> Result<(), Fail> {
     for (text, written) in [
         (UNCACHED, UNCACHED),
+        ("; c\n caches 0xC\nnop", "caches 12\n  nop\n"),
         (
             "x: wfq req,resp ; 0\n bi x",
             "L000:\n  wfq resp,req\n  bi L000\n",
@@ -225,7 +247,7 @@ fn text_of(rt: &HostRuntime, word: u64) -> Result<Option<Vec<u8>>, Fail> {
         Ok(instr) => instrs.push(instr)?,
         Err(_) => return Ok(None),
     }
-    match Image::make(instrs, Vec::new(rt.alloc())) {
+    match Image::make(1, 8, instrs, Vec::new(rt.alloc())) {
         Some(image) => Ok(Some(disassemble(rt.alloc(), &image)?)),
         None => Ok(None),
     }

@@ -8,12 +8,12 @@ ghost use Rattle.bk_image.specs.Spelling.{IsImage};
 ghost use Rattle.bk_asm.specs.Again.{all_inside, IsAgain};
 ghost use Rattle.bk_asm.specs.Ranges.{is_target};
 ghost use Rattle.bk_asm.specs.Reading.{image_at};
-ghost use Rattle.bk_asm.specs.Writing.{name_of, is_in, set_text, slot_text, label_text, last_text, form_text, field_text, fields_text, based_text, know_text, know_line_text, goes_to, label_line, form_line, place_text, spelling};
+ghost use Rattle.bk_asm.specs.Writing.{name_of, is_in, set_text, slot_text, label_text, last_text, form_text, field_text, fields_text, based_text, know_text, know_line_text, goes_to, label_line, form_line, place_text, places_text, caches_line, spelling};
 
 use crate::mnemonic::{mnemonic, operation_of};
 use crate::names::{Names, class_names, names_of, value_names};
 use crate::slots::{Last, Slot, slots_of};
-use bk_image::Image;
+use bk_image::{FIRST_VERSION, Image};
 use bk_isa::{Instr, word_of};
 use bk_know::{Know, Sets, field, held, idle, subset};
 use std::alloc::{AllocError, Global};
@@ -288,18 +288,31 @@ fn push_place(out: &mut String, image: &Image, place: u32, instr: Instr) -> Resu
 
 /// Writes what stands at each place.
 fn push_places(out: &mut String, image: &Image) -> Result<(), AllocError>
-    ensures text { OnOk result (string_bytes out.new ≡ string_bytes out.old ++ spelling image.now) }
+    ensures text { OnOk result (string_bytes out.new ≡ string_bytes out.old ++ places_text image.now 0 image.now.instrs) }
     ensures image { OnOk result (IsImage image.now) }
 {
     let instrs = image.instrs();
     // Each know line is one of a place, so all of them are written.
     let _knows = image.knows();
+    // So is its limit one of its version.
+    let _limit = image.limit();
     let mut place = 0;
     for instr in instrs {
         push_place(out, image, place, *instr)?;
         place += 1;
     }
     Ok(())
+}
+
+/// Writes the line of the limit, where the image has one of its own.
+#[tactic(auto, unfolding(crate::specs::Writing::caches_line))]
+fn push_caches(out: &mut String, image: &Image) -> Result<(), AllocError>
+    ensures { OnOk result (string_bytes out.new ≡ string_bytes out.old ++ caches_line image.now.version image.now.limit) }
+{
+    if image.version() == FIRST_VERSION {
+        return Ok(());
+    }
+    write!(out, "caches {}\n", image.limit())
 }
 
 /// The canonical text of an image (`docs/ASSEMBLY.md`). Fails only where memory runs out.
@@ -309,6 +322,7 @@ pub fn disassemble(alloc: Global, image: &Image) -> Result<Vec<u8>, AllocError>
     ensures again { IfOk result (λ v. IsAgain (all_inside image.now.instrs) image.now (image_at v.items)) }
 {
     let mut out = String::new(alloc);
+    push_caches(&mut out, image)?;
     push_places(&mut out, image)?;
     Ok(out.into_bytes())
 }

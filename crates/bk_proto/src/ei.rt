@@ -1,8 +1,11 @@
 //! The microcode of EI.
 
-/// EI: a block is in one cache at most, Exclusive.
-pub const SOURCE: &str =
-    "; EI: a block is in one cache at most, in Exclusive, and each miss moves it.
+/// The text, behind a first line or nothing.
+macro_rules! text {
+    ($first:literal) => {
+        concat!(
+            $first,
+            "; EI: a block is in one cache at most, in Exclusive, and each miss moves it.
 ; The simplest of the four protocols. The numbers are the places of instructions.
 
 ; Idle. Nothing is held: wait for a request, or for the last answer to an earlier grant.
@@ -135,4 +138,13 @@ fwS: know held summ=sum own=E|M|O
 finv: know held summ=sum others=yes
   inv                    ; 82
   bi ackw
-";
+"
+        )
+    };
+}
+
+/// EI: a block is in one cache at most, Exclusive.
+pub const SOURCE: &str = text!("");
+
+/// The same for up to sixteen caches.
+pub const SOURCE_16: &str = text!("caches 16\n");

@@ -1,7 +1,11 @@
 //! The microcode of MESI.
 
-/// MESI: as MSI, and Exclusive for a block without another copy.
-pub const SOURCE: &str = "; MESI: as MSI, and a block without another copy is sent as Exclusive,
+/// The text, behind a first line or nothing.
+macro_rules! text {
+    ($first:literal) => {
+        concat!(
+            $first,
+            "; MESI: as MSI, and a block without another copy is sent as Exclusive,
 ; so that its first store needs no message. The numbers are the places of instructions.
 
 ; Idle. Nothing is held: wait for a request, or for the last answer to an earlier grant.
@@ -154,4 +158,13 @@ fwS: know held summ=sum own=E|M|O
 finv: know held summ=sum others=yes
   inv                    ; 95
   bi ackw
-";
+"
+        )
+    };
+}
+
+/// MESI: as MSI, and Exclusive for a block without another copy.
+pub const SOURCE: &str = text!("");
+
+/// The same for up to sixteen caches.
+pub const SOURCE_16: &str = text!("caches 16\n");

@@ -1,8 +1,11 @@
 //! The microcode of MOESIF.
 
-/// MOESIF: as MESI, and Owned and Forward, whose holders send blocks from cache to cache.
-pub const SOURCE: &str =
-    "; MOESIF: as MESI, and owners send blocks from cache to cache: Owned answers for a dirty
+/// The text, behind a first line or nothing.
+macro_rules! text {
+    ($first:literal) => {
+        concat!(
+            $first,
+            "; MOESIF: as MESI, and owners send blocks from cache to cache: Owned answers for a dirty
 ; shared block, Forward for a clean one. The numbers are the places of instructions.
 
 ; Idle. Nothing is held: wait for a request, or for the last answer to an earlier grant.
@@ -171,4 +174,13 @@ fwS: know held summ=sum own=E|M|O
 finv: know held summ=sum others=yes
   inv                    ; 106
   bi ackw
-";
+"
+        )
+    };
+}
+
+/// MOESIF: as MESI, and Owned and Forward, whose holders send blocks from cache to cache.
+pub const SOURCE: &str = text!("");
+
+/// The same for up to sixteen caches.
+pub const SOURCE_16: &str = text!("caches 16\n");

@@ -1,7 +1,11 @@
 //! The microcode of MSI.
 
-/// MSI: Modified, Shared, Invalid.
-pub const SOURCE: &str = "; MSI: blocks are Modified in one cache, or Shared in any number.
+/// The text, behind a first line or nothing.
+macro_rules! text {
+    ($first:literal) => {
+        concat!(
+            $first,
+            "; MSI: blocks are Modified in one cache, or Shared in any number.
 ; Memory sends each block. The numbers are the places of instructions.
 
 ; Idle. Nothing is held: wait for a request, or for the last answer to an earlier grant.
@@ -147,4 +151,13 @@ fwS: know held summ=sum own=E|M|O
 finv: know held summ=sum others=yes
   inv                    ; 90
   bi ackw
-";
+"
+        )
+    };
+}
+
+/// MSI: Modified, Shared, Invalid.
+pub const SOURCE: &str = text!("");
+
+/// The same for up to sixteen caches.
+pub const SOURCE_16: &str = text!("caches 16\n");

@@ -22,6 +22,25 @@ fn checksum(bytes: &[u8]) -> u64 {
     sum
 }
 
+/// For sixteen caches a protocol is the same program, in an image of version 2.
+#[test]
+fn sources_for_sixteen_caches(rt: HostRuntime) -> Result<(), Fail> {
+    for (plain, name) in [
+        ("ei", "ei16"),
+        ("msi", "msi16"),
+        ("mesi", "mesi16"),
+        ("moesif", "moesif16"),
+    ] {
+        let image = assemble(rt.alloc(), source(plain).ok_or("a source")?)?;
+        let larger = assemble(rt.alloc(), source(name).ok_or("a source")?)?;
+        assert_eq!(rt; (larger.version(), larger.limit()), (2, 16), "{name}");
+        assert!(rt; larger.instrs() == image.instrs(), "{name}");
+        assert!(rt; larger.knows() == image.knows(), "{name}");
+        assert!(rt; check(&larger).is_ok(), "{name}");
+    }
+    Ok(())
+}
+
 #[test]
 fn sources_are_the_accepted_images(rt: HostRuntime) -> Result<(), Fail> {
     for (name, instrs, knows, bytes, canonical) in PROTOCOLS {
@@ -44,6 +63,7 @@ fn sources_are_the_accepted_images(rt: HostRuntime) -> Result<(), Fail> {
         );
         assert!(rt; check(&image).is_ok(), "{name}");
     }
+    assert!(rt; source("mesi17").is_none());
     assert!(rt; source("mesj").is_none());
     assert!(rt; source("").is_none());
     Ok(())

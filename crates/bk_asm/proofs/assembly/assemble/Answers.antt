@@ -15,6 +15,7 @@ loop-rest-preserved c =
     let d = c.loop-rest.draft in
     let text = c.cut_line.result.0.now in
     let parts : LineParts = record {
+      limit = c.in-Ok.parts.limit;
       label = option_map (λ w. w.now) c.in-Ok.parts.label;
       know = c.in-Ok.parts.know;
       does = c.in-Ok.parts.does;

@@ -32,9 +32,12 @@ returns-clause-image c =
     let all : length image.instrs ≤ i = (rw instrs.value at c.loop-instr-test.false) in
     let places : length image.instrs ≤ c.loop-instr.place = omega (arith, all, l.place) in
     record {
-      whole = record {
-        count = record { some = rw instrs.value at instrs.some; few = rw instrs.value at instrs.few };
-        lines = rw knows.value at knows.lines;
+      parts = record {
+        format = rw c.limit-limit.ensures.value at c.limit-limit.ensures.format;
+        whole = record {
+          count = record { some = rw instrs.value at instrs.some; few = rw instrs.value at instrs.few };
+          lines = rw knows.value at knows.lines;
+        };
       };
       in_range = all_in_range image.instrs i all l.in_range;
       masks = masks_of (length image.instrs) image.knows (rw knows.value at knows.lines)

@@ -8,6 +8,7 @@ use Rattle.bk_asm.proofs.draft.Draft.form_of.Goals as goal
 pub with_last-requires-in-Some-place_of : goal.with_last-requires-in-Some-place_of
 with_last-requires-in-Some-place_of c = λ h.
     let d : Draft = record {
+      limit = c.self.inside.limit;
       statements = c.self.inside.statements.items;
       knows = c.self.inside.knows.items;
       labels = c.self.inside.labels;

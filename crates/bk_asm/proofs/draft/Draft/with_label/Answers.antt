@@ -7,6 +7,7 @@ invariant_of-result c =
     let p : c.len.result ≡ length c.self.inside.statements.items = omega arith in
     rw c.in_ok-define.ensures
     (label_draft (record {
+      limit = c.self.inside.limit;
       statements = c.self.inside.statements.items;
       knows = c.self.inside.knows.items;
       labels = c.self.inside.labels;

@@ -12,6 +12,7 @@ invariant_of-result c =
       c.in_ok-knows.ensures,
     )
     (statement_draft (record {
+      limit = c.self.inside.limit;
       statements = c.self.inside.statements.items;
       knows = c.self.inside.knows.items;
       labels = c.self.inside.labels;
