@@ -168,7 +168,8 @@ module _ (k : Shape) (world : World) (inside : Inside k world) where
   does g (BlockStores c t w j f y ws rest) p =
       command g c (Blk t w y ws) rest (BlockStores c t w j f y ws rest) p.0 refl refl refl refl refl refl
   does g (WakeStores c t w j f rest) p = command g c (StWake t w) rest (WakeStores c t w j f rest) p.0 refl refl refl refl refl refl
-  does g (WordComes c t w spot n rest) p = command g c (UcBlk t spot.word n) rest (WordComes c t w spot n rest) p.0 refl refl refl refl refl refl
+  does g (WordComes c t w spot n rest) p = command g c (UcBlk t spot.word n) rest (WordComes c t w spot n rest) p.0 refl refl refl
+      refl refl refl
   does g (StoreComes c t w j f rest) p = command g c (UcDone t j) rest (StoreComes c t w j f rest) p.0 refl refl refl refl refl refl
   does g (EvictComes c t w rest) p = command g c (EvictDone t) rest (EvictComes c t w rest) p.0 refl refl refl refl refl refl
   does g (FillLoads c o t w spot y ws rest) p =

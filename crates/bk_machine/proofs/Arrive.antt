@@ -164,7 +164,8 @@ module _ (part : GroupState) (c t w : ℕ) (spot : Spot) (state : Coh) (ws : ℕ
     ungranted = OpenValues-granted part.transaction _ _ _ good.transaction;
   }
 
-  pub loaded-answers : RightAnswers (λ u j. 0) (part.history ++ record { cache = c; op = Load t spot; answer = spot.of (ws spot.word) } ∷ [])
+  pub loaded-answers : RightAnswers (λ u j. 0) (part.history ++ record
+      { cache = c; op = Load t spot; answer = spot.of (ws spot.word) } ∷ [])
   loaded-answers = RightAnswers-append (λ u j. 0) part.history _ good.answers (ap spot.of (same spot.word))
 
 module _ (part : GroupState) (c t w number : ℕ) (change : ℕ → ℕ) (ws : ℕ → ℕ) (f : Flight)
@@ -198,7 +199,8 @@ module _ (part : GroupState) (c t w number : ℕ) (change : ℕ → ℕ) (ws : �
   stored-memory u j d e = grind (arith, nat_tests)
 
   pub stored-values : Values (Settling c t) part.transaction (put2 part.entries c w (record { tag = t; state = M }))
-      (put2 part.words c w (put ws number (change (ws number)))) (after_op (Store t number change) (latest part.history)) (effective part.memory part.memout)
+      (put2 part.words c w (put ws number (change (ws number)))) (after_op (Store t number change) (latest part.history))
+      (effective part.memory part.memout)
   stored-values = record {
     copies = stored-words;
     memory = λ u j home. stored-memory u j (stored-elsewhere u home.clean) (good.values.memory u j (record {

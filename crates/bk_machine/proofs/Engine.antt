@@ -60,8 +60,11 @@ module _ (part : GroupState) (r : ℕ) (b : InProgress) (block : MemoryBlock) (r
   back-written true (Rd t w) f q = q
   back-written true (Wr t w) f q = q
   back-written true (UcRd t j) f q = q
-  back-written true (UcWr t j change) f q =
-      (subst (λ (y : Bool). (if y then block.words j else effective part.memory part.memout t j) ≡ change (latest part.history t j)) (sym (f refl)) q.0, q.1)
+  back-written true (UcWr t j change) f q = (
+    subst (λ (y : Bool). (if y then block.words j else effective part.memory part.memout t j) ≡ change (latest part.history t j))
+        (sym (f refl)) q.0,
+    q.1,
+  )
   back-written true (EvictRequest t w) f q = q
 
   back-channels : MemoryChannels (Some (open_transaction r b Idle rd wr ws)) part.memory (latest part.history)
@@ -227,7 +230,8 @@ module _ (part : GroupState) (r w t number : ℕ) (change : ℕ → ℕ) (inv : 
       good.values.memory t number (record { clean = λ c v l. absurd (word-none c v l); not_flying = refl; not_kept = refl }) in
       grind (arith, nat_tests, home)
 
-  word-channels : MemoryChannels (Some (open_transaction r (record { op = UcStore t number change; way = w }) Idle NotRead true [])) part.memory
+  word-channels : MemoryChannels (Some (open_transaction r (record { op = UcStore t number change; way = w }) Idle NotRead true []))
+      part.memory
       (latest part.history) (part.memout ++ WriteWord t number change ∷ []) part.memin
   word-channels = record {
     count = omega (arith, good.channels.count, read_count-append part.memout (WriteWord t number change));

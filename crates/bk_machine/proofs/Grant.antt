@@ -253,7 +253,8 @@ module _ (part : GroupState) (r w t number : ℕ) (change : ℕ → ℕ) (rd : R
       flying = tt;
       ungranted = tt;
     };
-    channels = channels-none (Some (open_transaction r (record { op = Store t number change; way = w }) Idle rd wr [])) _ _ _ _ _ _ not_reading
+    channels = channels-none (Some (open_transaction r (record { op = Store t number change; way = w }) Idle rd wr [])) _ _ _ _ _ _
+        not_reading
         refl good.channels;
     kind = refl;
     answers = good.answers;

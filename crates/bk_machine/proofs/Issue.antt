@@ -241,7 +241,8 @@ module _ (p : Phase) (part : GroupState) (c t w number : ℕ) (change : ℕ → 
   light-apart u none = grind (arith, nat_tests, none c w)
 
   hit-words : (u i y j : ℕ) → Holds (put2 part.entries c w (with_state (part.entries c w) M) i y) u
-      → put2 part.words c w (put (part.words c w) number (change (part.words c w number))) i y j ≡ after_op (Store t number change) (latest part.history) u j
+      → put2 part.words c w (put (part.words c w) number (change (part.words c w number))) i y j
+      ≡ after_op (Store t number change) (latest part.history) u j
   unfolding put2 put
   hit-words u i y j l = grind (arith, nat_tests, good.values.copies u i y j, good.copies.real_way t c w y, good.copies.real_alone t c w i y)
 
@@ -279,10 +280,8 @@ module _ (p : Phase) (part : GroupState) (c t w number : ℕ) (change : ℕ → 
   -- what was stored past the caches is into a block that no cache has, so not into this one
   hit-stored : (u j : ℕ) (f : ℕ → ℕ) → (a u j ≡ f (v u j)) × NoCopy part.entries u
       → (a u j ≡ f (v2 u j)) × NoCopy (put2 part.entries c w (with_state (part.entries c w) M)) u
-  hit-stored u j f q = (
-    q.0 ∙ ap f (hit-same u (λ e. q.1 c w (subst (λ (t : ℕ). Holds (part.entries c w) t) (sym e) has)) j),
-    NoCopy-fewer fewer u q.1,
-  )
+  hit-stored u j f q =
+      (q.0 ∙ ap f (hit-same u (λ e. q.1 c w (subst (Holds (part.entries c w)) (sym e) has)) j), NoCopy-fewer fewer u q.1)
 
   hit-done : (op : Op) → StoredAt op part.entries v a → StoredAt op (put2 part.entries c w (with_state (part.entries c w) M)) v2 a
   hit-done (Load u spot) q = tt

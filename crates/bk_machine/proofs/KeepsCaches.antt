@@ -150,9 +150,12 @@ module _ (g : ℕ) (world : World) (all : EveryGroup world) where
       (busy-other u c (to_none u g _ (world.busy c) n f)
       (words-other u g _ n (entries-other u g _ n (way_first-seen g c w (seen u world))))))))
 
-  pub keeps_word : (c t w : ℕ) (spot : Spot) (number : ℕ) (rest : List (ℕ × ToCache)) → world.command c ≡ (g, UcBlk t spot.word number) ∷ rest
-      → world.busy c ≡ Some (g, record { op = UcLoad t spot; way = w }) → EveryGroup (step_after g (WordComes c t w spot number rest) world)
-  keeps_word c t w spot number rest e f = step g world _ (finished (view g world) c t (UcLoad t spot) (spot.of number) (of_group g rest)) all
+  pub keeps_word : (c t w : ℕ) (spot : Spot) (number : ℕ) (rest : List (ℕ × ToCache)) → world.command c
+      ≡ (g, UcBlk t spot.word number) ∷ rest
+      → world.busy c ≡ Some (g, record { op = UcLoad t spot; way = w })
+      → EveryGroup (step_after g (WordComes c t w spot number rest) world)
+  keeps_word c t w spot number rest e f = step g world _ (finished (view g world) c t (UcLoad t spot) (spot.of number)
+      (of_group g rest)) all
       (λ p good. word_arrives (view g world) c t w p good spot number (of_group g rest) (of_group-head g (world.command c) rest _ e)
       (option_of_group-some g (world.busy c) _ f))
       (command-here g c (left g rest)
@@ -244,7 +247,8 @@ module _ (g : ℕ) (world : World) (all : EveryGroup world) where
       (memory-here g _ (memout-here g (left g rest) (seen g world)))
       (λ u n. memory-other u g _ n (memout-other u (left_other u g world.memout rest (Write t ws) n e) (seen u world)))
 
-  pub keeps_write_word : (t j : ℕ) (change : ℕ → ℕ) (rest : List (ℕ × ToMemory)) → world.memout ≡ (g, WriteWord t j change) ∷ rest
+  pub keeps_write_word : (t j : ℕ) (change : ℕ → ℕ) (rest : List (ℕ × ToMemory)) → world.memout ≡ (g, WriteWord t j change)
+      ∷ rest
       → EveryGroup (step_after g (MemoryWritesWord t j change rest) world)
   keeps_write_word t j change rest e =
       step g world _ (record (view g world) { memout = of_group g rest; memory = write_word (world.memory g) t j change }) all

@@ -100,7 +100,8 @@ evict_comes part c t w rest good last =
       ungranted = OpenValues-granted part.transaction _ _ _ good.transaction;
     })
 
-module _ (part : GroupState) (c t w number : ℕ) (change : ℕ → ℕ) (good : Good (Flying c (record { op = UcStore t number change; way = w }) ByDone) part) where
+module _ (part : GroupState) (c t w number : ℕ) (change : ℕ → ℕ)
+    (good : Good (Flying c (record { op = UcStore t number change; way = w }) ByDone) part) where
   store-words : (u i v j : ℕ) → Holds (part.entries i v) u → part.words i v j
       ≡ after_op (UcStore t number change) (latest part.history) u j
   store-words u i v j l = grind (arith, nat_tests, good.values.copies u i v j, good.values.flying.1 i v)

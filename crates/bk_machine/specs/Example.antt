@@ -146,6 +146,7 @@ events = load_events ++ silent_store ++ transfer_events ++ write_back_events ++ 
 
 -- what the operations have answered after it all
 abbrev pub answers : List (ℕ × Completed)
-answers = answer 0 0 (Load 0 (whole 3)) 0 ∷ answer 0 0 (Store 0 3 (becomes 5)) 0 ∷ answer 0 1 (Load 0 (whole 3)) 5 ∷ answer 0 0 (Load 1 (whole 0)) 0
+answers = answer 0 0 (Load 0 (whole 3)) 0 ∷ answer 0 0 (Store 0 3 (becomes 5)) 0 ∷ answer 0 1 (Load 0 (whole 3)) 5
+    ∷ answer 0 0 (Load 1 (whole 0)) 0
     ∷ answer 0 0 (UcStore 0 3 (becomes 9)) 0 ∷ answer 0 0 (Evict 1) 0
     ∷ answer 0 1 (UcLoad 0 (whole 3)) 9 ∷ []

@@ -16,7 +16,8 @@ shape = record { caches = 3; sets = 2; ways = 2 }
 
 -- Cache 0 stores into word 2 of the block, in its way 1, and is granted M by memory's block.
 abbrev pub store_events : List Event
-store_events = Issue 0 1 (Store 3 2 (becomes 7)) 1 ∷ Engine 1 (Takes 0 (Wr 3 1) []) ∷ grant_from_memory 1 zeros M (new_transaction 0 (Wr 3 1))
+store_events = Issue 0 1 (Store 3 2 (becomes 7)) 1 ∷ Engine 1 (Takes 0 (Wr 3 1) [])
+    ∷ grant_from_memory 1 zeros M (new_transaction 0 (Wr 3 1))
 
 -- Before that is settled, cache 1's load of the block with the same tag in group 0 is taken. It is granted S, though no other cache
 -- has the block.
@@ -68,6 +69,7 @@ events = store_events ++ load_beside_events ++ flush_events ++ share_events ++ w
 
 -- what the operations have answered after it all
 abbrev pub answers : List (ℕ × Completed)
-answers = answer 1 0 (Store 3 2 (becomes 7)) 0 ∷ answer 0 1 (Load 3 (whole 2)) 0 ∷ answer 1 2 (Load 3 (whole 2)) 7 ∷ answer 1 1 (Load 3 (whole 2)) 7
+answers = answer 1 0 (Store 3 2 (becomes 7)) 0 ∷ answer 0 1 (Load 3 (whole 2)) 0 ∷ answer 1 2 (Load 3 (whole 2)) 7
+    ∷ answer 1 1 (Load 3 (whole 2)) 7
     ∷ answer 1 0 (Store 3 2 (becomes 8)) 0 ∷ answer 1 0 (Load 4 (whole 0)) 0
     ∷ answer 1 0 (Load 3 (whole 2)) 8 ∷ []

@@ -22,14 +22,16 @@ pub data MachineStep : Type 0 where
   FlushComes : (cache way tag : ℕ) → Coh → (rest : List (ℕ × ToCache)) → MachineStep
   TransferComes : (cache way tag : ℕ) → Coh → (peer peer_way : ℕ) → Coh → (rest : List (ℕ × ToCache)) → MachineStep
   BlockLoads : (cache tag way : ℕ) → Spot → Coh → (ℕ → ℕ) → (rest : List (ℕ × ToCache)) → MachineStep
-  BlockStores : (cache tag way word : ℕ) → (change : ℕ → ℕ) → Coh → (ℕ → ℕ) → (rest : List (ℕ × ToCache)) → MachineStep
+  BlockStores : (cache tag way word : ℕ) → (change : ℕ → ℕ) → Coh → (ℕ → ℕ) → (rest : List (ℕ × ToCache))
+      → MachineStep
   WakeStores : (cache tag way word : ℕ) → (change : ℕ → ℕ) → (rest : List (ℕ × ToCache)) → MachineStep
   WordComes : (cache tag way : ℕ) → Spot → (value : ℕ) → (rest : List (ℕ × ToCache)) → MachineStep
   StoreComes : (cache tag way word : ℕ) → (change : ℕ → ℕ) → (rest : List (ℕ × ToCache)) → MachineStep
   EvictComes : (cache tag way : ℕ) → (rest : List (ℕ × ToCache)) → MachineStep
   -- Fill, for a Load and for a Store
   FillLoads : (cache from tag way : ℕ) → Spot → Coh → (ℕ → ℕ) → (rest : List (ℕ × FillMessage)) → MachineStep
-  FillStores : (cache from tag way word : ℕ) → (change : ℕ → ℕ) → Coh → (ℕ → ℕ) → (rest : List (ℕ × FillMessage)) → MachineStep
+  FillStores : (cache from tag way word : ℕ) → (change : ℕ → ℕ) → Coh → (ℕ → ℕ) → (rest : List (ℕ × FillMessage))
+      → MachineStep
   -- Memory
   MemoryReads : (tag : ℕ) → (rest : List (ℕ × ToMemory)) → MachineStep
   MemoryWrites : (tag : ℕ) → (ℕ → ℕ) → (rest : List (ℕ × ToMemory)) → MachineStep
@@ -70,7 +72,8 @@ with_command c xs world = record world { command = put world.command c xs }
 -- what a step of group g changes
 abbrev pub step_after : ℕ → MachineStep → World → World
 -- a Load answers its part of the copy's word
-step_after g (LoadHits c t v spot) world = with_record g c (Load t spot) (spot.of (world.words g c v spot.word)) (with_way_first g c v world)
+step_after g (LoadHits c t v spot) world = with_record g c (Load t spot) (spot.of (world.words g c v spot.word))
+    (with_way_first g c v world)
 -- a Store changes its word, and the copy is in M
 step_after g (StoreHits c t v k f) world = with_record g c (Store t k f) 0 (record (with_way_first g c v world) {
   entries = put world.entries g (put2 (world.entries g) c v (with_state (world.entries g c v) M));
@@ -104,9 +107,11 @@ step_after g (TransferComes c v t y peer pv x rest) world = record world {
 }
 -- Blk, Fill: the entry becomes the block's; a Load answers its part; a Store changes its word and has M; CohAck
 step_after g (BlockLoads c t v spot x ws rest) world =
-    with_command c rest (with_completion g c (Load t spot) (spot.of (ws spot.word)) (with_filled_entry g c v t x ws (with_way_first g c v world)))
+    with_command c rest (with_completion g c (Load t spot) (spot.of (ws spot.word))
+    (with_filled_entry g c v t x ws (with_way_first g c v world)))
 step_after g (BlockStores c t v k f x ws rest) world =
-    with_command c rest (with_completion g c (Store t k f) 0 (with_filled_entry g c v t M (put ws k (f (ws k))) (with_way_first g c v world)))
+    with_command c rest (with_completion g c (Store t k f) 0
+    (with_filled_entry g c v t M (put ws k (f (ws k))) (with_way_first g c v world)))
 -- StWake: the Store changes the copy's word, and the copy is in M; CohAck
 step_after g (WakeStores c t v k f rest) world =
     with_command c rest (with_completion g c (Store t k f) 0
