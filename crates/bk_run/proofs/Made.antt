@@ -6,6 +6,7 @@ use Rattle.bk_base.specs.Places.{Shape}
 use Rattle.bk_base.specs.Counting.{first_below, or_else}
 use Rattle.bk_base.specs.declared.op.Op.{Op}
 use Rattle.bk_base.proofs.Below.{first_below-found, first_below-none}
+use Rattle.bk_base.specs.declared.config.TheConstants.{MOST_CACHES}
 use Rattle.bk_isa.specs.declared.form.Form.{Form}
 use Rattle.bk_isa.specs.declared.form.Form.TheVariants.{Wfq}
 use Rattle.bk_msg.specs.declared.row.Row.{Row}
@@ -24,6 +25,8 @@ use Rattle.bk_system.specs.Runs.{is_enabled}
 use Rattle.bk_system.specs.Events.{row, cache_row, issue_taken, command_of, without_command, fill_of, without_fill, access_row, first, is_wait, is_choice, can_run, offered_head}
 use Rattle.bk_system.specs.Lookups.{is_filled, has_message, has_fill, is_idle, awaited}
 use Rattle.bk_system.specs.Next.{IsNextOf, IsNoneFrom}
+use Rattle.bk_system.specs.Numbering.{fill_place, receiver_at, sender_at}
+use Rattle.bk_system.specs.declared.hardware.TheConstants.{FILL_CHANNELS}
 use Rattle.bk_run.specs.Greedy.{if_enabled, next_operation, ready_operation, choice_of, engine_event, fill_event, least_other, IsLeast}
 use Rattle.bk_run.proofs.Tight.{least-unready}
 use Rattle.bk_run.specs.Schedule.{IsMade, Makes, heads, least_head, least_engine, least_delivery}
@@ -158,11 +161,11 @@ fill-passed true true [] g e h = e
 fill-passed true true (m ∷ ms) g e h = absurd (cc)
 
 pub fill-skipped : (k : Shape) (program : List Form) (s : State) (place : ℕ) → has_fill k.caches s.fill place ≡ false
-    → fill_event k program s (place / 8) (place % 8) ≡ None
-fill-skipped k program s place h = rowless k program s (Fill (place / 8) (place % 8))
-    (ap (cache_row (without_fill s (place / 8) (place % 8)) (place / 8))
-    (fill-passed (nat_lt (place / 8) k.caches) (nat_lt (place % 8) k.caches) (s.fill (place / 8) (place % 8)) (fill_of k s
-    (place / 8)) refl h))
+    → fill_event k program s (receiver_at place) (sender_at place) ≡ None
+fill-skipped k program s place h = rowless k program s (Fill (receiver_at place) (sender_at place))
+    (ap (cache_row (without_fill s (receiver_at place) (sender_at place)) (receiver_at place))
+    (fill-passed (nat_lt (receiver_at place) k.caches) (nat_lt (sender_at place) k.caches) (s.fill (receiver_at place) (sender_at place))
+    (fill_of k s (receiver_at place)) refl h))
 
 -- a head of a class that the `wfq` names is there
 no-head : (ms : List Row) → is_filled ms ≡ false → first ms ≡ None
@@ -189,31 +192,33 @@ answer-skipped k program s classes here h = class-empty k program s classes CLAS
 
 -- THE FILLS by receiver and sender, as those of their places
 
-row-of : (to from : ℕ) → from < 8 → (to * 8 + from) / 8 ≡ to
+row-of : (to from : ℕ) → from < MOST_CACHES → receiver_at (fill_place to from) ≡ to
 row-of to from l = omega arith
 
-column-of : (to from : ℕ) → from < 8 → (to * 8 + from) % 8 ≡ from
+column-of : (to from : ℕ) → from < MOST_CACHES → sender_at (fill_place to from) ≡ from
 column-of to from l = omega arith
 
-at-place : {X : Type 0} (g : ℕ → ℕ → Option X) (to from : ℕ) → from < 8
-    → g ((to * 8 + from) / 8) ((to * 8 + from) % 8) ≡ None → g to from ≡ None
+at-place : {X : Type 0} (g : ℕ → ℕ → Option X) (to from : ℕ) → from < MOST_CACHES
+    → g (receiver_at (fill_place to from)) (sender_at (fill_place to from)) ≡ None → g to from ≡ None
 at-place g to from l h = subst (λ i. g i from ≡ None) (row-of to from l)
-    (subst (λ j. g ((to * 8 + from) / 8) j ≡ None) (column-of to from l) h)
+    (subst (λ j. g (receiver_at (fill_place to from)) j ≡ None) (column-of to from l) h)
 
-pub square-none : {X : Type 0} (n : ℕ) (g : ℕ → ℕ → Option X) → n ≤ 8
-    → first_below 64 (λ place. g (place / 8) (place % 8)) ≡ None → first_below n (λ to. first_below n (g to)) ≡ None
+pub square-none : {X : Type 0} (n : ℕ) (g : ℕ → ℕ → Option X) → n ≤ MOST_CACHES
+    → first_below FILL_CHANNELS (λ place. g (receiver_at place) (sender_at place)) ≡ None
+    → first_below n (λ to. first_below n (g to)) ≡ None
 square-none n g few none = none-below n (λ to. first_below n (g to)) (λ to lt. none-below n (g to) (λ from lf.
     at-place g to from (omega arith)
-    (first_below-none 64 (λ place. g (place / 8) (place % 8)) none (to * 8 + from) (omega arith))))
+    (first_below-none FILL_CHANNELS (λ place. g (receiver_at place) (sender_at place)) none (fill_place to from) (omega arith))))
 
-pub square-found : {X : Type 0} (n place : ℕ) (g : ℕ → ℕ → Option X) (x : X) → n ≤ 8 → place / 8 < n → place % 8 < n
-    → ((i : ℕ) → i < place → g (i / 8) (i % 8) ≡ None) → g (place / 8) (place % 8) ≡ Some x
+pub square-found : {X : Type 0} (n place : ℕ) (g : ℕ → ℕ → Option X) (x : X) → n ≤ MOST_CACHES
+    → receiver_at place < n → sender_at place < n
+    → ((i : ℕ) → i < place → g (receiver_at i) (sender_at i) ≡ None) → g (receiver_at place) (sender_at place) ≡ Some x
     → first_below n (λ to. first_below n (g to)) ≡ Some x
 square-found n place g x few to_within from_within before e =
-    found-below n (place / 8) (λ to. first_below n (g to)) x to_within
-    (λ to lt. none-below n (g to) (λ from lf. at-place g to from (omega arith) (before (to * 8 + from) (omega arith))))
-    (found-below n (place % 8) (g (place / 8)) x from_within
-    (λ from lf. at-place g (place / 8) from (omega arith) (before (place / 8 * 8 + from) (omega arith))) e)
+    found-below n (receiver_at place) (λ to. first_below n (g to)) x to_within
+    (λ to lt. none-below n (g to) (λ from lf. at-place g to from (omega arith) (before (fill_place to from) (omega arith))))
+    (found-below n (sender_at place) (g (receiver_at place)) x from_within
+    (λ from lf. at-place g (receiver_at place) from (omega arith) (before (fill_place (receiver_at place) from) (omega arith))) e)
 
 -- A LOOK and a call from a state and a configuration that are these
 

@@ -236,7 +236,7 @@ fn make_fill(hardware: &mut Hardware, program: &[Instr]) -> Result<Option<Event>
             Ok(None) => {}
             Err(e) => return Err(e),
         }
-        start = place + 1;
+        start = place as u16 + 1;
     }
     Ok(None)
 }

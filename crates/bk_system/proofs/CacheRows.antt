@@ -7,6 +7,7 @@ use Rattle.bk_base.specs.Places.{Shape}
 use Rattle.bk_base.specs.Tables.{put}
 use Rattle.bk_base.specs.declared.op.Op.{Op}
 use Rattle.bk_base.specs.declared.op.Done.{Done}
+use Rattle.bk_base.specs.declared.config.TheConstants.{MOST_CACHES}
 use Rattle.bk_msg.specs.declared.row.Row.{Row}
 use Rattle.bk_lce.specs.CacheState.{CacheState}
 use Rattle.bk_lce.specs.CacheTable as table
@@ -51,13 +52,14 @@ pub caches-kept : (f g : ℕ → CacheState) (c : ℕ) → g ≡ put f c (g c) �
 caches-kept f g c e h = e ∙ put-same f c (g c) h
 
 -- the head of a fill channel
-pub fill-head : (q : ℕ → List Row) (to from : ℕ) (o : Option Row) (place : ℕ) → to < 8 → from < 8
+pub fill-head : (q : ℕ → List Row) (to from : ℕ) (o : Option Row) (place : ℕ) → to < MOST_CACHES → from < MOST_CACHES
     → place ≡ fill_place to from
     → o ≡ slice_get (q place) 0 → o ≡ first (fills_of q to from)
 fill-head q to from o place l m p e = e ∙ ap (λ (j : ℕ). slice_get (q j) 0) p ∙ ap first (sym (fills-at q to from l m))
 
 -- the fill channels without the head of one
-pub fill-popped : (q r : ℕ → List Row) (to from place : ℕ) → to < 8 → from < 8 → place ≡ fill_place to from
+pub fill-popped : (q r : ℕ → List Row) (to from place : ℕ) → to < MOST_CACHES → from < MOST_CACHES
+    → place ≡ fill_place to from
     → r ≡ put q place (drop 1 (q place))
     → fills_of r ≡ put (fills_of q) to (put (fills_of q to) from (drop 1 (fills_of q to from)))
 fill-popped q r to from place l m p e =

@@ -4,6 +4,7 @@ use Rattle.std.specs.Prelude.{OnOk, if◌then◌else◌, ◌==◌, nat_lt}
 use Rattle.std.proofs.lemmas.Bool.Decides.{nat_tests}
 use Rattle.bk_base.specs.Places.{Shape}
 use Rattle.bk_base.specs.Tables.{put}
+use Rattle.bk_base.specs.declared.config.TheConstants.{MOST_CACHES}
 use Rattle.bk_msg.specs.declared.row.Row.{Row}
 use Rattle.bk_system.specs.Channels.{queue}
 use Rattle.bk_system.specs.Deliveries.{Holds}
@@ -198,14 +199,15 @@ response-changed s f channel from change is e =
     at-channel s (record s { response = f }) channel (channels.Response from) change is
     (response-holds s f from (change (s.response from)) e)
 
--- a fill channel is between caches of eight
-within-eight : (k : Shape) (channel : Channel) (to from : ℕ) → k.caches ≤ 8 → channel ≡ channels.Fill to from
-    → IsChannel k channel → (to < 8) × (from < 8)
-within-eight k channel to from few e there =
+-- a fill channel is between two of the most caches that there may be
+within-most : (k : Shape) (channel : Channel) (to from : ℕ) → k.caches ≤ MOST_CACHES → channel ≡ channels.Fill to from
+    → IsChannel k channel → (to < MOST_CACHES) × (from < MOST_CACHES)
+within-most k channel to from few e there =
     let both = subst (IsChannel k) e there in (omega (arith, few, both.0), omega (arith, few, both.1))
 
 -- a channel to a cache from another has a place among all
-fills-changed : (s : State) (f old : ℕ → List Row) (to from : ℕ) (change : List Row → List Row) → to < 8 → from < 8
+fills-changed : (s : State) (f old : ℕ → List Row) (to from : ℕ) (change : List Row → List Row) → to < MOST_CACHES
+    → from < MOST_CACHES
     → s.fill ≡ fills_of old → f ≡ put old (fill_place to from) (change (old (fill_place to from)))
     → fills_of f ≡ put s.fill to (put (s.fill to) from (change (s.fill to from)))
 fills-changed s f old to from change a b same e =
@@ -216,20 +218,20 @@ fills-changed s f old to from change a b same e =
     (sym (fills-at old to from a b) ∙ ap (λ (g : ℕ → ℕ → List Row). g to from) (sym same))
 
 pub fill-changed : (k : Shape) (s : State) (f old : ℕ → List Row) (channel : Channel) (place to from : ℕ)
-    (change : List Row → List Row) → k.caches ≤ 8 → IsChannel k channel → channel ≡ channels.Fill to from
+    (change : List Row → List Row) → k.caches ≤ MOST_CACHES → IsChannel k channel → channel ≡ channels.Fill to from
     → s.fill ≡ fills_of old → place ≡ fill_place to from → f ≡ put old place (change (old place))
     → Holds s (record s { fill = fills_of f }) channel (change (channel_of s channel))
 fill-changed k s f old channel place to from change few there is same at e =
-    let both = within-eight k channel to from few is there in
+    let both = within-most k channel to from few is there in
     at-channel s (record s { fill = fills_of f }) channel (channels.Fill to from) change is
     (fill-holds s (fills_of f) to from (change (s.fill to from))
     (fills-changed s f old to from change both.0 both.1 same (e ∙ ap (λ (n : ℕ). put old n (change (old n))) at)))
 
-pub fill-first : (k : Shape) (s : State) (old : ℕ → List Row) (channel : Channel) (place to from : ℕ) → k.caches ≤ 8
+pub fill-first : (k : Shape) (s : State) (old : ℕ → List Row) (channel : Channel) (place to from : ℕ) → k.caches ≤ MOST_CACHES
     → IsChannel k channel → channel ≡ channels.Fill to from → s.fill ≡ fills_of old → place ≡ fill_place to from
     → first (old place) ≡ first (channel_of s channel)
 fill-first k s old channel place to from few there is same at =
-    let both = within-eight k channel to from few is there in
+    let both = within-most k channel to from few is there in
     ap (λ (n : ℕ). first (old n)) at
     ∙ ap first (sym (fills-at old to from both.0 both.1))
     ∙ ap (λ (g : ℕ → ℕ → List Row). first (g to from)) (sym same)
@@ -264,7 +266,7 @@ if-within false k ms within = tt
 fills-within : (q : Channels) (k : Shape) (to from : ℕ) → q.config ≡ k → EachWithin k (fills_of (queue q) to from)
 unfolding fills_of
 fills-within q k to from e =
-    if-within (nat_lt to 8 && nat_lt from 8) k (queue q (fill_place to from)) (queue-within q k (fill_place to from) e)
+    if-within (nat_lt to MOST_CACHES && nat_lt from MOST_CACHES) k (queue q (fill_place to from)) (queue-within q k (fill_place to from) e)
 
 pub all-within : (y : Hardware) (channel : Channel) → EachWithin y.config (channel_of (state_of y) channel)
 all-within y (channels.Request from) = queue-within y.requests y.config from y.requests_config

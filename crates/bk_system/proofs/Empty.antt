@@ -5,6 +5,7 @@ use Rattle.std.specs.Option.{option_copied}
 use Rattle.std.specs.Borrow.{Bor}
 use Rattle.bk_base.specs.Counting.{all_below, is_nil}
 use Rattle.bk_base.specs.Places.{Shape}
+use Rattle.bk_base.specs.declared.config.TheConstants.{MOST_CACHES}
 use Rattle.bk_isa.specs.declared.form.Form.{Form}
 use Rattle.bk_msg.specs.declared.row.Row.{Row}
 use Rattle.bk_lce.specs.declared.line.InProgress.{InProgress}
@@ -27,7 +28,7 @@ nil-first [] = refl
 nil-first (x ∷ xs) = refl
 
 -- a fill channel has a head or is empty
-pub fills-nil : (q : ℕ → List Row) (to from place : ℕ) (r : Option (Bor Row)) (b : Bool) → to < 8 → from < 8
+pub fills-nil : (q : ℕ → List Row) (to from place : ℕ) (r : Option (Bor Row)) (b : Bool) → to < MOST_CACHES → from < MOST_CACHES
     → place ≡ fill_place to from
     → option_copied r ≡ slice_get (q place) 0 → b ≡ is_some r → is_nil (fills_of q to from) ≡ not b
 fills-nil q to from place r b l m p e h =

@@ -6,6 +6,7 @@ use Rattle.std.specs.Int.{bit_at}
 use Rattle.std.proofs.lemmas.Bool.Decides.{nat_tests}
 use Rattle.std.proofs.lemmas.Nat.Bits.{bit_at-zero}
 use Rattle.bk_base.specs.Tables.{put}
+use Rattle.bk_base.specs.declared.config.TheConstants.{MOST_CACHES}
 use Rattle.bk_lce.specs.declared.cache_arrays.CacheArrays.{CacheArrays}
 use Rattle.bk_lce.specs.declared.line.InProgress.{InProgress}
 use Rattle.bk_lce.specs.CacheState.{CacheState}
@@ -36,7 +37,7 @@ lt a b l = grind (arith, nat_tests)
 is-lt : (a b : ℕ) → nat_lt a b ≡ true → a < b
 is-lt a b e = grind (arith, nat_tests)
 
-pub idle-none : (n word start : ℕ) (caches : ℕ → CacheState) → n ≤ 8 → AreIdle n word caches
+pub idle-none : (n word start : ℕ) (caches : ℕ → CacheState) → n ≤ MOST_CACHES → AreIdle n word caches
     → ((c : ℕ) → start ≤ c → bit_at word c ≡ 0) → IsNoneFrom n start (is_idle caches)
 idle-none n word start caches few marks none j from l =
     bit-off (nat_lt j n) (is_none (caches j).busy) (bit_at word j) (marks j (omega (arith, l, few))) (none j from) (lt j n l)
@@ -55,7 +56,7 @@ idle-next n word start c caches marks first =
           (lt j n (omega (arith, l, within)));
     }
 
-pub idle-told : (n word start : ℕ) (caches : ℕ → CacheState) (o : Option ℕ) → n ≤ 8 → AreIdle n word caches
+pub idle-told : (n word start : ℕ) (caches : ℕ → CacheState) (o : Option ℕ) → n ≤ MOST_CACHES → AreIdle n word caches
     → MatchOption o ((c : ℕ) → start ≤ c → bit_at word c ≡ 0) (λ c. IsFirstBit word start c)
     → MatchOption o (IsNoneFrom n start (is_idle caches)) (IsNextOf n start (is_idle caches))
 idle-told n word start caches None few marks h = idle-none n word start caches few marks h

@@ -5,6 +5,7 @@ pub mod Delivered
 pub mod Empty
 pub mod Entries
 pub mod Fills
+pub mod FourWords
 pub mod Idle
 pub mod InternalRow
 pub mod Marks

@@ -5,6 +5,7 @@ use Rattle.std.proofs.lemmas.Bool.{cond_both}
 use Rattle.bk_base.specs.Places.{Shape, block_start}
 use Rattle.bk_base.specs.Counting.{join_below}
 use Rattle.bk_base.specs.declared.coh.Coh.{Coh}
+use Rattle.bk_base.specs.declared.config.TheConstants.{MOST_CACHES}
 use Rattle.bk_isa.specs.declared.form.Form.{Form}
 use Rattle.bk_isa.specs.declared.form.Form.TheVariants.{Popq, Inv, Stwb, Blk, Wake, Tr, Ucblk, Ucdone, Done, Memrd, Memwb, Memww}
 use Rattle.bk_msg.specs.declared.row.Row.{Row}
@@ -66,7 +67,7 @@ invs-below held with_owner summary (suc n) =
     let memory : memory_count (xs ++ ys) ≡ memory_count xs + memory_count ys = memory-both xs ys in
     (omega (arith, one.0, more.0), omega (arith, one.1, more.1))
 
-invs-fit : (k : Shape) (held : Held) (with_owner : Bool) (summary : Summary) → k.caches ≤ 8
+invs-fit : (k : Shape) (held : Held) (with_owner : Bool) (summary : Summary) → k.caches ≤ MOST_CACHES
     → Fits needs.Invalidations (invs k held with_owner summary)
 invs-fit k held with_owner summary l =
     let below = invs-below held with_owner summary k.caches in
@@ -103,7 +104,8 @@ back-fits : (dirty : Option DirtyBlock) → Fits needs.Memory (writes_back dirty
 back-fits None = none needs.Memory
 back-fits (Some kept) = record { commands = omega arith; memory = omega arith }
 
-for-fits : (k : Shape) (engine : EngineState) (held : Held) (f : Form) → k.caches ≤ 8 → Fits (need_of f) (sends_for k engine held f)
+for-fits : (k : Shape) (engine : EngineState) (held : Held) (f : Form) → k.caches ≤ MOST_CACHES
+    → Fits (need_of f) (sends_for k engine held f)
 for-fits k engine held (Inv a) l = invs-fit k held (a == 1) (summary_for k engine.directory held) l
 for-fits k engine held (Stwb who state) l = flushes-fit k engine.directory held who state
 for-fits k engine held (Tr a b) l = transfer_to-fits held (summary_for k engine.directory held).owner a b
@@ -116,12 +118,12 @@ for-fits k engine held Memrd l = record { commands = omega arith; memory = omega
 for-fits k engine held Memww l = record { commands = omega arith; memory = omega arith }
 for-fits k engine held f l = none (need_of f)
 
-held-fits : (k : Shape) (engine : EngineState) (o : Option Held) (f : Form) → k.caches ≤ 8
+held-fits : (k : Shape) (engine : EngineState) (o : Option Held) (f : Form) → k.caches ≤ MOST_CACHES
     → Fits (need_of f) (sends_held k engine o f)
 held-fits k engine None f l = none (need_of f)
 held-fits k engine (Some held) f l = for-fits k engine held f l
 
-sends-fit : (k : Shape) (engine : EngineState) (f : Form) → k.caches ≤ 8 → Fits (need_of f) (sends k engine f)
+sends-fit : (k : Shape) (engine : EngineState) (f : Form) → k.caches ≤ MOST_CACHES → Fits (need_of f) (sends k engine f)
 sends-fit k engine Memwb l = back-fits engine.core.dirty
 sends-fit k engine f l = held-fits k engine engine.core.held f l
 
@@ -133,7 +135,7 @@ pops-fit : (engine : EngineState) (f : Form) → origin_count (pops engine f) �
 pops-fit engine (Popq _) = choice-le engine.core.head
 pops-fit engine f = omega arith
 
-at-within : (k : Shape) (engine : EngineState) (form : Option Form) (choice : Choice) (m : Option Row) → k.caches ≤ 8
+at-within : (k : Shape) (engine : EngineState) (form : Option Form) (choice : Choice) (m : Option Row) → k.caches ≤ MOST_CACHES
     → IsWithinNeed (need_at form) (ran_at k engine form choice m).sent (ran_at k engine form choice m).popped
 at-within k engine None choice m l = record { commands = omega arith; memory = omega arith; origins = omega arith }
 at-within k engine (Some f) choice m l =
@@ -142,7 +144,7 @@ at-within k engine (Some f) choice m l =
 
 pub ran-within : (k : Shape) (engine new : EngineState) (program : List Form) (choice : Choice) (m : Option Row) (sent : List Row)
     (popped : Option Choice)
-    → k.caches ≤ 8 → runs_to k engine program choice m ≡ record { engine = new; sent = sent; popped = popped }
+    → k.caches ≤ MOST_CACHES → runs_to k engine program choice m ≡ record { engine = new; sent = sent; popped = popped }
     → IsWithinNeed (need_at (slice_get program engine.core.place)) sent popped
 ran-within k engine new program choice m sent popped l e =
     subst (λ (o : Outcome). IsWithinNeed (need_at (slice_get program engine.core.place)) o.sent o.popped) e

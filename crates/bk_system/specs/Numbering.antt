@@ -1,8 +1,9 @@
 -- The parts of a system by their numbers: its caches, the channels between them, and how many operations each cache has completed.
-use Rattle.std.specs.Prelude.{◌≡◌, ℕ, ◌+◌, ◌*◌, ◌<◌, ◌&&◌, nat_lt, if◌then◌else◌, List, [], Some, is_none, slice_get, slice_index, length}
+use Rattle.std.specs.Prelude.{◌≡◌, ℕ, ◌+◌, ◌*◌, ◌/◌, ◌%◌, ◌<◌, ◌&&◌, nat_lt, if◌then◌else◌, List, [], Some, is_none, slice_get, slice_index, length}
 use Rattle.std.specs.Option.{option_map_or}
 use Rattle.std.specs.Int.{bit_at}
 use Rattle.bk_base.specs.Places.{Shape}
+use Rattle.bk_base.specs.declared.config.TheConstants.{MOST_CACHES}
 use Rattle.bk_base.specs.declared.op.Done.{Done}
 use Rattle.bk_msg.specs.declared.row.Row.{Row}
 use Rattle.bk_lce.specs.declared.cache_arrays.CacheArrays.{CacheArrays}
@@ -22,13 +23,20 @@ AreCaches k xs = (c : ℕ) (x : CacheArrays) → slice_get xs c ≡ Some x → (
 abbrev pub AreIdle : ℕ → ℕ → (ℕ → CacheState) → Type 0
 AreIdle n word caches = (c : ℕ) → c < 64 → bit_at word c ≡ (if nat_lt c n && is_none (caches c).busy then 1 else 0)
 
--- the place of the fill channel to a cache from another, with room for eight senders
+-- the place of the fill channel to a cache from another, with room for as many senders as there are caches at the most
 abbrev pub fill_place : ℕ → ℕ → ℕ
-fill_place to from = to * 8 + from
+fill_place to from = to * MOST_CACHES + from
+
+-- the receiver and the sender of the channel of a place
+abbrev pub receiver_at : ℕ → ℕ
+receiver_at place = place / MOST_CACHES
+
+abbrev pub sender_at : ℕ → ℕ
+sender_at place = place % MOST_CACHES
 
 -- the fill channels, by receiver and sender
 unfoldable pub fills_of : (ℕ → List Row) → ℕ → ℕ → List Row
-fills_of channel to from = if nat_lt to 8 && nat_lt from 8 then channel (fill_place to from) else []
+fills_of channel to from = if nat_lt to MOST_CACHES && nat_lt from MOST_CACHES then channel (fill_place to from) else []
 
 -- how many entries each cache has in the history
 abbrev pub AreCounts : ℕ → List ℕ → List Done → Type 0

@@ -1,14 +1,14 @@
 -- The channels of a network, in a list: what each holds, how much room it has, that its messages are within a configuration, and
--- a word of marks for those that hold any.
+-- four words of marks for those that hold any.
 use Rattle.std.specs.Prelude.{◌≡◌, ℕ, ◌+◌, ◌-◌, ◌<◌, List, [], ◌∷◌, ◌++◌, length, slice_get}
 use Rattle.std.specs.Option.{option_map_or}
-use Rattle.std.specs.Int.{bit_at}
 use Rattle.std.specs.Coded.{×_prop, Unit-prop}
 use Rattle.std.specs.VecDeque.{deque_len, deque_capacity}
 use Rattle.bk_base.specs.Places.{Shape}
 use Rattle.bk_msg.specs.declared.row.Row.{Row}
 use Rattle.bk_msg.specs.Within.{IsWithin, IsWithin-prop}
 use Rattle.bk_system.specs.declared.queue.Queue.{Queue}
+use Rattle.bk_system.specs.Bits.{mark_at}
 
 -- what a channel holds, the oldest message first: those of its ring, then those of its list
 abbrev pub items_of : Queue → List Row
@@ -48,6 +48,6 @@ abbrev pub mark_of : List Row → ℕ
 mark_of [] = 0
 mark_of (m ∷ ms) = 1
 
--- the 64 bits of a word mark the channels that hold a message
-abbrev pub AreMarks : ℕ → (ℕ → List Row) → Type 0
-AreMarks marks channel = (c : ℕ) → c < 64 → bit_at marks c ≡ mark_of (channel c)
+-- four words mark the channels that hold a message
+abbrev pub AreMarks : List ℕ → (ℕ → List Row) → Type 0
+AreMarks marks channel = (c : ℕ) → c < 256 → mark_at marks c ≡ mark_of (channel c)

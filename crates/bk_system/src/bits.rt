@@ -1,9 +1,15 @@
 ghost use Rattle.std.specs.Prelude.{◌≡◌, ◌≤◌, ◌<◌, ℕ, MatchOption, if◌then◌else◌};
 ghost use Rattle.std.specs.Int.{bit_at};
 ghost use Rattle.bk_base.specs.Tables.{put};
-ghost use Rattle.bk_system.specs.Bits.{IsFirstBit};
+ghost use Rattle.bk_system.specs.Bits.{IsFirstBit, mark_at};
 
-// A word whose bits mark some of 64 places.
+// Words whose bits mark places: one word marks 64 of them, and four words mark 256.
+
+/// How many places a word marks.
+pub(crate) const WORD_PLACES: u8 = 64;
+
+/// How many words of marks there are.
+pub(crate) const MARK_WORDS: usize = 4;
 
 /// The word with the bit of a place set or cleared.
 pub(crate) fn marked(word: u64, place: u8, set: bool) -> u64
@@ -12,6 +18,14 @@ pub(crate) fn marked(word: u64, place: u8, set: bool) -> u64
 {
     let mark = 1 << place;
     if set { word | mark } else { word & !mark }
+}
+
+/// Sets or clears the mark of a place in four words of marks.
+pub(crate) fn mark(marks: &mut [u64; MARK_WORDS], place: u8, set: bool)
+    ensures { (c : ℕ) → c < 256 → mark_at marks.new c ≡ put (mark_at marks.old) place (if set then 1 else 0) c }
+{
+    let word = (place / WORD_PLACES) as usize;
+    marks[word] = marked(marks[word], place % WORD_PLACES, set);
 }
 
 /// The least place from a start on whose bit is set.

@@ -1,6 +1,6 @@
-ghost use Rattle.std.specs.Prelude.{◌≡◌, ◌≤◌, ◌<◌, ◌&&◌, nat_lt};
+ghost use Rattle.std.specs.Prelude.{◌≡◌, ◌≤◌, ◌<◌, nat_lt};
 
-use bk_base::Config;
+use bk_base::{Config, MOST_CACHES};
 
 // Tests and numbers of a configuration, as the definitions write them.
 
@@ -21,7 +21,7 @@ pub(crate) fn has_way(config: Config, way: u8) -> bool
 /// How many caches there are.
 pub(crate) fn cache_count(config: Config) -> u8
     ensures value { result ≡ config.caches }
-    ensures few { result ≤ 8 }
+    ensures few { result ≤ MOST_CACHES }
     ensures some { 0 < result }
 {
     config.caches
@@ -33,11 +33,4 @@ pub(crate) fn set_count(config: Config) -> u8
     ensures few { result ≤ 64 }
 {
     config.sets
-}
-
-/// Whether both hold.
-pub(crate) fn both(a: bool, b: bool) -> bool
-    ensures { result ≡ (a && b) }
-{
-    a && b
 }

@@ -1,5 +1,6 @@
 ghost use Rattle.std.specs.Prelude.{◌≡◌, ◌<◌, ◌≤◌, vec_len, IfOk, is_some, MatchOption};
 ghost use Rattle.bk_base.specs.Tables.{put};
+ghost use Rattle.bk_base.specs.declared.config.TheConstants.{MOST_CACHES};
 ghost use Rattle.bk_msg.specs.Within.{IsWithin};
 ghost use Rattle.bk_lce.specs.CacheTable.{SendsWithin, CompletesOwn};
 ghost use Rattle.bk_system.specs.Numbering.{AreCaches, AreIdle, caches_of};
@@ -18,7 +19,7 @@ pub struct Caches {
     arrays: Vec<CacheArrays>,
     /// Bit c is set where cache c has no operation in progress.
     idle: u64,
-    ghost few: { config.caches ≤ 8 },
+    ghost few: { config.caches ≤ MOST_CACHES },
     ghost each: { vec_len arrays ≡ config.caches },
     ghost own: { AreCaches config arrays.items },
     ghost idlers: { AreIdle config.caches idle (caches_of config arrays.items) },

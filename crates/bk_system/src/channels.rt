@@ -5,21 +5,21 @@ ghost use Rattle.bk_base.specs.Counting.{all_below, is_nil};
 ghost use Rattle.bk_msg.specs.Within.{IsWithin};
 ghost use Rattle.bk_system.specs.Queues.{queues_of, AreWithin, AreWithin-prop, AreMarks};
 
-use crate::bits::{first_bit, marked};
+use crate::bits::{MARK_WORDS, WORD_PLACES, first_bit, mark};
 use crate::queue::Queue;
 use bk_base::Config;
 use bk_msg::Message;
 use std::alloc::{AllocError, Global};
 
-/// The channels of one network, of any length, at most 64 of them. Each message in them names caches and
+/// The channels of one network, of any length, at most 256 of them. Each message in them names caches and
 /// ways of the configuration alone.
 #[derive(Drop)]
 pub struct Channels {
     pub(crate) config: Config,
     queues: Vec<Queue>,
-    /// Bit c is set where channel c holds a message.
-    marks: u64,
-    ghost few: { vec_len queues ≤ 64 },
+    /// Place c is marked where channel c holds a message.
+    marks: [u64; MARK_WORDS],
+    ghost few: { vec_len queues ≤ 256 },
     ghost within: { AreWithin config (queues_of queues.items) } by { AreWithin-prop config (queues_of queues.items) },
     ghost marked: { AreMarks marks (queues_of queues.items) },
 }
@@ -28,8 +28,8 @@ impl Channels {
     ghost use Rattle.bk_system.specs.Channels.{queue, room, channel_count, IsNext};
 
     /// So many channels, each empty.
-    pub fn make(alloc: Global, config: Config, count: u8) -> Result<Channels, AllocError>
-        requires { count ≤ 64 }
+    pub fn make(alloc: Global, config: Config, count: u16) -> Result<Channels, AllocError>
+        requires { count ≤ 256 }
         ensures count { IfOk result (λ channels. channel_count channels ≡ count) }
         ensures empty { IfOk result (λ channels. queue channels ≡ λ c. []) }
         ensures config { IfOk result (λ channels. channels.config ≡ config) }
@@ -41,7 +41,7 @@ impl Channels {
         Ok(Channels {
             config,
             queues,
-            marks: 0,
+            marks: [0; MARK_WORDS],
         })
     }
 
@@ -70,7 +70,7 @@ impl Channels {
     {
         let queue = &mut self.queues[channel as usize];
         queue.push(message);
-        self.marks = marked(self.marks, channel, true);
+        mark(&mut self.marks, channel, true);
     }
 
     /// Takes the head of a channel off, if there is one.
@@ -85,7 +85,7 @@ impl Channels {
         let queue = &mut self.queues[channel as usize];
         queue.drop_head();
         let holds = !queue.is_empty();
-        self.marks = marked(self.marks, channel, holds);
+        mark(&mut self.marks, channel, holds);
     }
 
     /// The head of a channel; none for a number that no channel has.
@@ -102,11 +102,20 @@ impl Channels {
     }
 
     /// The least channel at or above a number that holds a message.
-    pub fn next(&self, from: u8) -> Option<u8>
+    pub fn next(&self, from: u16) -> Option<u8>
         ensures { MatchOption result ((c : ℕ) → from ≤ c → queue self.now c ≡ [])
             (λ c. IsNext (queue self.now) (channel_count self.now) from c) }
     {
-        first_bit(self.marks, from)
+        // The words before that of `from` mark no channel at or above it.
+        let places = WORD_PLACES as u16;
+        let mut start = from % places;
+        for word in from / places..MARK_WORDS as u16 {
+            if let Some(bit) = first_bit(self.marks[word as usize], start as u8) {
+                return Some(word as u8 * WORD_PLACES + bit);
+            }
+            start = 0;
+        }
+        None
     }
 
     /// Whether all channels are empty.

@@ -1,8 +1,8 @@
 use bk_base::Op;
 use bk_engine::Choice;
 
-/// How many messages an event sends at the most, with room to spare: an `inv` sends one to each of eight caches at the most, any other
-/// instruction and a step of a cache or of the memory at most one.
+/// How many messages an event sends at the most: an `inv` sends one to each of sixteen caches at the most, any other instruction and
+/// a step of a cache or of the memory at most one.
 pub const MOST_SENT: usize = 16;
 
 /// One local step of one agent.

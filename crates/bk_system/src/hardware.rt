@@ -1,21 +1,24 @@
 ghost use Rattle.std.specs.Prelude.{◌≡◌, ◌≤◌, ◌<◌, ℕ, [], length, vec_len, IfOk};
+ghost use Rattle.bk_base.specs.declared.config.TheConstants.{MOST_CACHES};
 ghost use Rattle.bk_system.specs.Channels.{channel_count};
 ghost use Rattle.bk_system.specs.Numbering.{AreCounts};
+ghost use Rattle.bk_system.specs.declared.hardware.TheConstants.{FILL_CHANNELS};
 
 use crate::bounds::cache_count;
 use crate::caches::Caches;
 use crate::channels::Channels;
 use crate::event::{MOST_SENT, Origin};
 use crate::memory::MainMemory;
+use crate::sending::SENDERS;
 use arrayvec::ArrayVec;
-use bk_base::{Config, Done};
+use bk_base::{Config, Done, MOST_CACHES};
 use bk_engine::Engine;
 use bk_lce::CacheArrays;
 use bk_msg::Message;
 use std::alloc::{AllocError, Global};
 
-/// How many fill channels there are: one for each receiver and sender of eight.
-pub const FILL_CHANNELS: u8 = 64;
+/// How many fill channels there are: one for each receiver and sender.
+pub const FILL_CHANNELS: u16 = SENDERS as u16 * SENDERS as u16;
 
 /// The caches, the engine and the memory of a system, the channels between them, and what has happened in
 /// it. Contracts see the state that it stands for, as `state_of` tells, and its configuration.
@@ -27,7 +30,7 @@ pub struct Hardware {
     pub(crate) requests: Channels,
     pub(crate) commands: Channels,
     pub(crate) responses: Channels,
-    /// The channels between caches: that to a cache from another has the place `to * 8 + from`.
+    /// The channels between caches: that to a cache from another has the place `to * SENDERS + from`.
     pub(crate) fills: Channels,
     /// The one channel from the engine to the memory, and the one back.
     pub(crate) memout: Channels,
@@ -41,7 +44,7 @@ pub struct Hardware {
     /// What the last event has sent, where it ran. It is no part of the state that the hardware stands for: it is kept here since
     /// making and moving a list of sixteen messages takes many times as long as an event.
     pub(crate) sent: ArrayVec<Message, MOST_SENT>,
-    ghost few_caches: { config.caches ≤ 8 },
+    ghost few_caches: { config.caches ≤ MOST_CACHES },
     ghost some_caches: { 0 < config.caches },
     ghost caches_config: { caches.config ≡ config },
     ghost engine_config: { engine.config ≡ config },
@@ -52,7 +55,7 @@ pub struct Hardware {
     ghost responses_config: { responses.config ≡ config },
     ghost responses_each: { channel_count responses ≡ config.caches },
     ghost fills_config: { fills.config ≡ config },
-    ghost fills_each: { channel_count fills ≡ 64 },
+    ghost fills_each: { channel_count fills ≡ FILL_CHANNELS },
     ghost memout_config: { memout.config ≡ config },
     ghost memout_one: { channel_count memout ≡ 1 },
     ghost memin_config: { memin.config ≡ config },
@@ -88,7 +91,8 @@ impl Hardware {
         ensures state { IfOk result (λ y. state_of y ≡ opening config) }
         ensures config { IfOk result (λ y. y.config ≡ config) }
     {
-        let count = cache_count(config);
+        let caches = cache_count(config);
+        let count = caches as u16;
         Ok(Hardware {
             config,
             caches: Caches::make(alloc, config)?,
@@ -101,7 +105,7 @@ impl Hardware {
             memin: Channels::make(alloc, config, 1)?,
             memory: MainMemory::make(alloc),
             history: Vec::new(alloc),
-            completed: zeros(alloc, count)?,
+            completed: zeros(alloc, caches)?,
             taken: Vec::new(alloc),
             settled: Vec::new(alloc),
             sent: ArrayVec::new(),
@@ -133,7 +137,7 @@ impl Hardware {
     /// How many caches there are.
     pub fn cache_count(&self) -> u8
         ensures value { result ≡ self.now.config.caches }
-        ensures few { result ≤ 8 }
+        ensures few { result ≤ MOST_CACHES }
     {
         cache_count(self.config)
     }

@@ -20,6 +20,8 @@ mod needs;
 mod queue;
 mod quiet;
 mod sending;
+#[cfg(test)]
+mod tests;
 
 pub use channel::Channel;
 pub use event::{Event, MOST_SENT, Origin};

@@ -1,12 +1,13 @@
-ghost use Rattle.std.specs.Prelude.{◌≡◌, if◌then◌else◌, Some, None, slice_get};
+ghost use Rattle.std.specs.Prelude.{◌≡◌, slice_get};
 ghost use Rattle.bk_system.specs.Needs.{need_of, need_with};
 
 use crate::heads::{may_choose, names_none};
+use bk_base::MOST_CACHES;
 use bk_engine::Choice;
 use bk_isa::{Form, Instr};
 
-/// How many invalidations an instruction sends at the most: one to each of eight caches.
-pub const MOST_INVALIDATIONS: usize = 8;
+/// How many invalidations an instruction sends at the most: one to each of the caches.
+pub const MOST_INVALIDATIONS: usize = MOST_CACHES as usize;
 
 /// What an instruction may do outside of the engine, for which room is made before it runs. Most do nothing.
 #[derive(Clone, Copy, Debug, PartialEq, Eq)]
@@ -43,22 +44,15 @@ pub(crate) fn need_of(form: Form) -> Need
     }
 }
 
-/// A need, where a condition is met.
-fn need_if(met: bool, need: Need) -> Option<Need>
-    ensures { result ≡ if met then Some need else None }
-{
-    if met { Some(need) } else { None }
-}
-
 /// What the instruction at a place may do outside of the engine, where it may be run with a choice. Nothing, where there is none.
 pub(crate) fn need_with(program: &[Instr], place: u32, choice: Choice) -> Option<Need>
     ensures { result ≡ need_with (slice_get program.now place) choice }
 {
     match program.get(place as usize) {
-        None => need_if(names_none(choice), Need::Nothing),
+        None => names_none(choice).then_some(Need::Nothing),
         Some(instr) => {
             let form = instr.form();
-            need_if(may_choose(form, choice), need_of(form))
+            may_choose(form, choice).then_some(need_of(form))
         }
     }
 }

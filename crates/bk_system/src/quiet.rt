@@ -3,19 +3,20 @@ ghost use Rattle.bk_base.specs.Counting.{all_below, is_nil};
 ghost use Rattle.bk_system.specs.Channels.{queue, channel_count};
 ghost use Rattle.bk_system.specs.Numbering.{fills_of};
 
-use crate::bounds::{both, set_count};
+use crate::bounds::set_count;
 use crate::channels::Channels;
 use crate::hardware::Hardware;
 use crate::heads::{is_wait, names_requests};
 use crate::sending::fill_place;
+use bk_base::MOST_CACHES;
 use bk_isa::Instr;
 
 // Whether the system is quiet, and whether it has come to rest.
 
 /// Whether the fill channels to a cache from the caches are empty.
 fn are_empty_to(fills: &Channels, caches: u8, to: u8) -> bool
-    requires caches { caches ≤ 8 }
-    requires to { to < 8 }
+    requires caches { caches ≤ MOST_CACHES }
+    requires to { to < MOST_CACHES }
     ensures { result ≡ all_below caches (λ from. is_nil (fills_of (queue fills.now) to from)) }
 {
     for from in 0..caches {
@@ -28,7 +29,7 @@ fn are_empty_to(fills: &Channels, caches: u8, to: u8) -> bool
 
 /// Whether the fill channels between the caches are empty.
 fn are_empty(fills: &Channels, caches: u8) -> bool
-    requires { caches ≤ 8 }
+    requires { caches ≤ MOST_CACHES }
     ensures { result ≡ all_below caches (λ to. all_below caches (λ from. is_nil (fills_of (queue fills.now) to from))) }
 {
     for to in 0..caches {
@@ -47,12 +48,13 @@ impl Hardware {
     pub fn quiet(&self, program: &[Instr]) -> bool
         ensures { result ≡ is_quiet self.now.config program.now (state_of self.now) }
     {
-        let empty = both(self.requests.is_empty(), self.commands.is_empty());
-        let empty = both(empty, self.responses.is_empty());
-        let empty = both(empty, are_empty(&self.fills, self.cache_count()));
-        let empty = both(empty, self.memout.is_empty());
-        let empty = both(empty, self.memin.is_empty());
-        both(empty, is_wait(program, self.engine.place()))
+        self.requests.is_empty()
+            & self.commands.is_empty()
+            & self.responses.is_empty()
+            & are_empty(&self.fills, self.cache_count())
+            & self.memout.is_empty()
+            & self.memin.is_empty()
+            & is_wait(program, self.engine.place())
     }
 
     /// Whether no way group is pending.
@@ -85,11 +87,9 @@ impl Hardware {
     pub fn rested(&self, program: &[Instr]) -> bool
         ensures { result ≡ is_rested self.now.config program.now (state_of self.now) }
     {
-        let rested = both(
-            self.quiet(program),
-            names_requests(program, self.engine.place()),
-        );
-        let rested = both(rested, self.none_pending());
-        both(rested, self.all_idle())
+        self.quiet(program)
+            & names_requests(program, self.engine.place())
+            & self.none_pending()
+            & self.all_idle()
     }
 }

@@ -12,19 +12,20 @@ ghost use Rattle.bk_system.specs.Needs.{command_count, memory_count};
 ghost use Rattle.bk_system.specs.Numbering.{fill_place, fills_of, AreCounts};
 
 use crate::channels::Channels;
-use bk_base::{Done, Op};
+use crate::hardware::FILL_CHANNELS;
+use bk_base::{Done, MOST_CACHES, Op};
 use bk_msg::{Message, Network};
 use std::alloc::AllocError;
 
 /// How many senders the places of the fill channels to a cache have room for.
-pub const SENDERS: u8 = 8;
+pub const SENDERS: u8 = MOST_CACHES;
 
 /// The place of the fill channel to a cache from another.
 pub(crate) fn fill_place(to: u8, from: u8) -> u8
-    requires to { to < 8 }
-    requires from { from < 8 }
+    requires to { to < MOST_CACHES }
+    requires from { from < MOST_CACHES }
     ensures value { result ≡ fill_place to from }
-    ensures within { result < 64 }
+    ensures within { result < FILL_CHANNELS }
 {
     to * SENDERS + from
 }
@@ -37,8 +38,8 @@ pub(crate) fn send(
     cache: u8,
     sent: &Option<Message>,
 )
-    requires cache { cache < 8 }
-    requires caches { fills.old.config.caches ≤ 8 }
+    requires cache { cache < MOST_CACHES }
+    requires caches { fills.old.config.caches ≤ MOST_CACHES }
     requires requests_config { requests.old.config ≡ fills.old.config }
     requires responses_config { responses.old.config ≡ fills.old.config }
     requires request { (m : Row) → sent.now ≡ Some m → network_of m ≡ Request → 1 ≤ room requests.old cache }
@@ -73,9 +74,9 @@ pub(crate) fn reserve_fill(
     peer: Option<u8>,
     cache: u8,
 ) -> Result<(), AllocError>
-    requires peer { IfSome peer (λ to. to < 8) }
-    requires cache { cache < 8 }
-    requires count { channel_count fills.old ≡ 64 }
+    requires peer { IfSome peer (λ to. to < MOST_CACHES) }
+    requires cache { cache < MOST_CACHES }
+    requires count { channel_count fills.old ≡ FILL_CHANNELS }
     ensures queue { queue fills.new ≡ queue fills.old }
     ensures room { OnOk result (IfSome peer (λ to. 1 ≤ room fills.new (fill_place to cache))) }
     ensures count { channel_count fills.new ≡ channel_count fills.old }

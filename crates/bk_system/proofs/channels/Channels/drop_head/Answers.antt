@@ -16,9 +16,9 @@ invariant_of-self c =
           (within-rest c.args.self.now.config (items_of c.index_mut-queue.result.now)
           (within-item c.args.self.now.config c.args.self.now.queues.items c.args.channel c.index_mut-queue.result.now l
           c.index_mut-queue.ensures.value c.args.self.now.within)));
-      marked = marks-changed c.args.self.now.marks c.marked-self.result c.args.self.now.queues.items c.args.channel c.drop_head.new.self _ l
+      marked = marks-changed c.args.self.now.marks c.mark.new.marks c.args.self.now.queues.items c.args.channel c.drop_head.new.self _ l
           (mark-holds (items_of c.drop_head.new.self) _ c.is_empty-holds.ensures)
-          c.args.self.now.marked c.marked-self.ensures;
+          c.args.self.now.marked c.mark.ensures;
     }
 
 pub returns-clause-rest : goal.returns-clause-rest

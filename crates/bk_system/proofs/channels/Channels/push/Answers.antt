@@ -16,11 +16,6 @@ push-requires c =
     let was = room-item c.args.self.now c.args.channel c.index_mut-queue.result.now there c.index_mut-queue.ensures.value in
     subst (λ n. 1 ≤ n) was c.requires.room
 
-pub marked-self-requires : goal.marked-self-requires
-marked-self-requires c =
-    let there = room-there c.args.self.now c.args.channel c.requires.room in
-    omega (arith, c.args.self.now.few)
-
 pub invariant_of-self : goal.invariant_of-self
 invariant_of-self c =
     let there = room-there c.args.self.now c.args.channel c.requires.room in
@@ -33,9 +28,9 @@ invariant_of-self c =
           (within-append c.args.self.now.config (items_of c.index_mut-queue.result.now) c.args.message.now
           (within-item c.args.self.now.config c.args.self.now.queues.items c.args.channel c.index_mut-queue.result.now l
           c.index_mut-queue.ensures.value c.args.self.now.within) c.requires.within));
-      marked = marks-changed c.args.self.now.marks c.marked-self.result c.args.self.now.queues.items c.args.channel c.push.new.self 1 l
+      marked = marks-changed c.args.self.now.marks c.mark.new.marks c.args.self.now.queues.items c.args.channel c.push.new.self 1 l
           (mark-append (items_of c.index_mut-queue.result.now) c.args.message.now ∙ sym (ap mark_of c.push.ensures.items))
-          c.args.self.now.marked c.marked-self.ensures;
+          c.args.self.now.marked c.mark.ensures;
     }
 
 pub returns-clause-queue : goal.returns-clause-queue

@@ -2,6 +2,7 @@ use Rattle.std.proofs.Common.{◌<◌, ◌≤◌, ℕ, ap, sym, ◌∙◌, arith
 use Rattle.std.specs.Prelude.{is_some}
 use Rattle.std.specs.Option.{option_copied}
 use Rattle.bk_base.specs.Places.{Shape}
+use Rattle.bk_base.specs.declared.config.TheConstants.{MOST_CACHES}
 use Rattle.bk_lce.specs.CacheState.{CacheState}
 use Rattle.bk_lce.specs.CacheTable as table
 use Rattle.bk_lce.specs.CacheTable.{Transition}
@@ -18,7 +19,7 @@ returns-in-None c =
     is-below c.args.to c.args.self.now.config.caches (sym c.has_cache.ensures ∙ c.if-not-has_cache.false) in
     let from : c.args.from < c.args.self.now.config.caches =
     is-below c.args.from c.args.self.now.config.caches (sym c.has_cache-2.ensures ∙ c.if-not-has_cache-2.false) in
-    let few : c.args.self.now.config.caches ≤ 8 = c.args.self.now.few_caches in
+    let few : c.args.self.now.config.caches ≤ MOST_CACHES = c.args.self.now.few_caches in
     let none = sym (fill-head (queue c.args.self.now.fills) c.args.to c.args.from (option_copied c.head.result) c.fill_place.result
     (omega arith) (omega arith) c.fill_place.ensures.value c.head.ensures.value) ∙ ap option_copied c.in-None.is in
     sym (ap (λ (o : Option Transition). is_some o) (fill-none c.args.self.now.config s c.args.to c.args.from none))
@@ -30,7 +31,7 @@ returns-in-Some c =
     is-below c.args.to c.args.self.now.config.caches (sym c.has_cache.ensures ∙ c.if-not-has_cache.false) in
     let from : c.args.from < c.args.self.now.config.caches =
     is-below c.args.from c.args.self.now.config.caches (sym c.has_cache-2.ensures ∙ c.if-not-has_cache-2.false) in
-    let few : c.args.self.now.config.caches ≤ 8 = c.args.self.now.few_caches in
+    let few : c.args.self.now.config.caches ≤ MOST_CACHES = c.args.self.now.few_caches in
     let m = c.in-Some.message.now in
     let some = sym (fill-head (queue c.args.self.now.fills) c.args.to c.args.from (option_copied c.head.result) c.fill_place.result
     (omega arith) (omega arith) c.fill_place.ensures.value c.head.ensures.value) ∙ ap option_copied c.in-Some.is in

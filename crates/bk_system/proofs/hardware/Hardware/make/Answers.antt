@@ -1,5 +1,6 @@
 use Rattle.std.proofs.Common.{◌≡◌, ◌<◌, ◌≤◌, ℕ, List, [], ap, sym, subst, ◌∙◌}
 use Rattle.bk_base.specs.declared.op.Done.{Done}
+use Rattle.bk_base.specs.declared.config.TheConstants.{MOST_CACHES}
 use Rattle.bk_system.specs.Numbering.{fills_of, AreCounts}
 use Rattle.bk_system.proofs.Fills.{fills-none}
 use Rattle.bk_system.proofs.hardware.Hardware.make.Goals as goal
@@ -23,10 +24,10 @@ returns-clause-state c = λ i. record {
 -- each part was made for the configuration
 pub invariant_of-result : goal.invariant_of-result
 invariant_of-result c =
-    let count : c.cache_count-count.result ≡ c.args.config.caches = c.cache_count-count.ensures.value in
+    let count : c.cache_count-caches.result ≡ c.args.config.caches = c.cache_count-caches.ensures.value in
     record {
-      few_caches = subst (λ (n : ℕ). n ≤ 8) count c.cache_count-count.ensures.few;
-      some_caches = subst (λ (n : ℕ). 0 < n) count c.cache_count-count.ensures.some;
+      few_caches = subst (λ (n : ℕ). n ≤ MOST_CACHES) count c.cache_count-caches.ensures.few;
+      some_caches = subst (λ (n : ℕ). 0 < n) count c.cache_count-caches.ensures.some;
       caches_config = c.in_ok-make.ensures.config;
       engine_config = c.in_ok-make-2.ensures.config;
       requests_config = c.in_ok-make-3.ensures.config;

@@ -18,16 +18,8 @@ returns c =
     ∙ ap (λ (n : ℕ). all_below n (λ to. all_below n (λ from. is_nil (fills_of (queue y.fills) to from))))
     c.cache_count.ensures.value in
     let waits = c.is_wait.ensures ∙ ap (λ (p : ℕ). is_wait (slice_get c.args.program.now p)) c.place.ensures in
-    rw (
-      c.both.ensures,
-      c.both-empty-5.ensures,
-      c.both-empty-4.ensures,
-      c.both-empty-3.ensures,
-      c.both-empty-2.ensures,
-      c.both-empty.ensures,
-    )
-    (quiet-of y.config c.args.program.now (state_of y) c.is_empty.result c.is_empty-2.result c.is_empty-3.result c.are_empty.result
+    quiet-of y.config c.args.program.now (state_of y) c.is_empty.result c.is_empty-2.result c.is_empty-3.result c.are_empty.result
     c.is_empty-4.result c.is_empty-5.result c.is_wait.result
     (channel_count y.memout) (channel_count y.memin) (λ k. is_nil (queue y.memout k)) (λ k. is_nil (queue y.memin k))
     requests commands responses fills
-    c.is_empty-4.ensures y.memout_one refl c.is_empty-5.ensures y.memin_one refl waits)
+    c.is_empty-4.ensures y.memout_one refl c.is_empty-5.ensures y.memin_one refl waits

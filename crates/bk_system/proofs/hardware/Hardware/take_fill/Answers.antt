@@ -3,6 +3,7 @@ use Rattle.std.specs.Prelude.{drop}
 use Rattle.std.specs.Option.{option_copied}
 use Rattle.bk_base.specs.Places.{Shape}
 use Rattle.bk_base.specs.Tables.{put}
+use Rattle.bk_base.specs.declared.config.TheConstants.{MOST_CACHES}
 use Rattle.bk_msg.specs.declared.row.Row.{Row}
 use Rattle.bk_lce.specs.CacheState.{CacheState}
 use Rattle.bk_lce.specs.CacheTable as table
@@ -23,8 +24,8 @@ conclude-requires-clause-room c =
 pub returns-in_default-clause-happens : goal.returns-in_default-clause-happens
 returns-in_default-clause-happens c =
     let s = state_of c.args.self.now in
-    let to : c.args.to < 8 = omega (arith, c.requires.to, c.args.self.now.few_caches) in
-    let from : c.args.from < 8 = omega (arith, c.requires.from, c.args.self.now.few_caches) in
+    let to : c.args.to < MOST_CACHES = omega (arith, c.requires.to, c.args.self.now.few_caches) in
+    let from : c.args.from < MOST_CACHES = omega (arith, c.requires.from, c.args.self.now.few_caches) in
     let none = sym (fill-head (queue c.args.self.now.fills) c.args.to c.args.from (option_copied c.head.result) c.fill_place-place.result
     to from c.fill_place-place.ensures.value c.head.ensures.value) ∙ ap option_copied c.in_default.is in (
       ap (cache_row (without_fill s c.args.to c.args.from) c.args.to)
@@ -36,8 +37,8 @@ pub returns-in-Err-clause-happens : goal.returns-in-Err-clause-happens
 returns-in-Err-clause-happens c =
     let s = state_of c.args.self.now in
     let m = c.in-Some.message.now in
-    let to : c.args.to < 8 = omega (arith, c.requires.to, c.args.self.now.few_caches) in
-    let from : c.args.from < 8 = omega (arith, c.requires.from, c.args.self.now.few_caches) in
+    let to : c.args.to < MOST_CACHES = omega (arith, c.requires.to, c.args.self.now.few_caches) in
+    let from : c.args.from < MOST_CACHES = omega (arith, c.requires.from, c.args.self.now.few_caches) in
     let head = sym (fill-head (queue c.args.self.now.fills) c.args.to c.args.from (option_copied c.head.result) c.fill_place-place.result
     to from c.fill_place-place.ensures.value c.head.ensures.value) ∙ ap option_copied c.in-Some.is in (
       ap (cache_row (without_fill s c.args.to c.args.from) c.args.to)
@@ -53,8 +54,8 @@ pub returns-in-Ok-clause-happens : goal.returns-in-Ok-clause-happens
 returns-in-Ok-clause-happens c =
     let s = state_of c.args.self.now in
     let m = c.in-Some.message.now in
-    let to : c.args.to < 8 = omega (arith, c.requires.to, c.args.self.now.few_caches) in
-    let from : c.args.from < 8 = omega (arith, c.requires.from, c.args.self.now.few_caches) in
+    let to : c.args.to < MOST_CACHES = omega (arith, c.requires.to, c.args.self.now.few_caches) in
+    let from : c.args.from < MOST_CACHES = omega (arith, c.requires.from, c.args.self.now.few_caches) in
     let head = sym (fill-head (queue c.args.self.now.fills) c.args.to c.args.from (option_copied c.head.result) c.fill_place-place.result
     to from c.fill_place-place.ensures.value c.head.ensures.value) ∙ ap option_copied c.in-Some.is in
     let popped = fill-popped (queue c.args.self.now.fills) (queue c.drop_head.new.self) c.args.to c.args.from
