@@ -256,7 +256,7 @@ module _ (k : Shape) (program : List Form) (s : State) (outside : NoneOutside k 
       absurd (no-wait y d tied u (awaited k s y d a tied.agrees (and_parts _ _ (in-held y.1.granted _ _ u m.o6)).1))
 
 below-cache : (k : Shape) → InProfile k → 0 < k.caches
-below-cache k p = let least : 1 ≤ k.caches = leb-true 1 k.caches (and_parts (nat_le 1 k.caches) (nat_le k.caches 8) p.caches).0
+below-cache k p = let least : 1 ≤ k.caches = leb-true 1 k.caches (and_parts (nat_le 1 k.caches) (nat_le k.caches 16) p.caches).0
     in omega arith
 
 nil-of : {X : Type 0} (xs : List X) → xs ≡ [] → is_nil xs ≡ true
