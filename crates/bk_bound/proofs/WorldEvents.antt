@@ -19,8 +19,8 @@ use Rattle.bk_bound.proofs.WorldSteps.{TakesMessage, Begins, Does, does}
 -- whether a step begins an operation
 abbrev begins : Option (ℕ × MachineStep) → Bool
 begins None = false
-begins (Some (g, LoadHits c t w j)) = true
-begins (Some (g, StoreHits c t w j n)) = true
+begins (Some (g, LoadHits c t w spot)) = true
+begins (Some (g, StoreHits c t w j f)) = true
 begins (Some (g, Asks c w op)) = true
 begins (Some (g, EvictIdles c t)) = true
 begins (Some a) = false
@@ -90,7 +90,7 @@ memory-none : (ms : List (ℕ × ToMemory)) → begins (step_of_memory ms) ≡ f
 memory-none [] = refl
 memory-none ((g, Read t) ∷ rest) = refl
 memory-none ((g, Write t ws) ∷ rest) = refl
-memory-none ((g, WriteWord t i n) ∷ rest) = refl
+memory-none ((g, WriteWord t i f) ∷ rest) = refl
 
 -- EVENTS
 
@@ -99,8 +99,8 @@ module _ (k : Shape) (world : World) (ranges : Ranges k world) (inside : Inside 
   taken : (o : Option (ℕ × MachineStep)) → IfFits k world o → begins o ≡ false → is_some o ≡ true
       → TakesMessage k world (option_step_after world o)
   taken None fits e some = absurd (cc)
-  taken (Some (g, LoadHits c t w j)) fits e some = absurd (cc)
-  taken (Some (g, StoreHits c t w j n)) fits e some = absurd (cc)
+  taken (Some (g, LoadHits c t w spot)) fits e some = absurd (cc)
+  taken (Some (g, StoreHits c t w j f)) fits e some = absurd (cc)
   taken (Some (g, Asks c w op)) fits e some = absurd (cc)
   taken (Some (g, EvictIdles c t)) fits e some = absurd (cc)
   taken (Some (g, a)) fits e some = does k world inside g a fits
@@ -133,8 +133,8 @@ module _ (k : Shape) (world : World) (ranges : Ranges k world) (inside : Inside 
       messages a b c l = omega (arith, l)
 
   begun : (g : ℕ) (a : MachineStep) → Does k world inside g a → Begins k world (step_after g a world)
-  begun g (LoadHits c t w j) d = d
-  begun g (StoreHits c t w j n) d = d
+  begun g (LoadHits c t w spot) d = d
+  begun g (StoreHits c t w j f) d = d
   begun g (Asks c w op) d = d
   begun g (EvictIdles c t) d = d
   begun g a d = few g a d

@@ -223,13 +223,13 @@ module _ (k : Shape) (world : World) (inv : Invariant k world) (inside : Inside 
       flush-falls g o w (request_tag x.request) y x q.ungranted (request_tag x.request) q.aims
   action-falls g (WritesBack b x) p = leaves g (WritesBack b x) refl refl (kept g x (record x { write_back = Idle }) p.0 refl)
   action-falls g (ReadsMemory x) p = leaves g (ReadsMemory x) refl refl (kept g x (record x { reading = ReadAsked }) p.0.is refl)
-  action-falls g (WritesWord t i n x) p =
-      leaves g (WritesWord t i n x) refl refl (kept g x (record x { written = true }) p.0.ungranted.is refl)
+  action-falls g (WritesWord t i f x) p =
+      leaves g (WritesWord t i f x) refl refl (kept g x (record x { written = true }) p.0.ungranted.is refl)
   action-falls g (GrantsByBlock ws y x) p = grants g (GrantsByBlock ws y x) refl refl refl
   action-falls g (GrantsByWake t w x) p = grants g (GrantsByWake t w x) refl refl refl
   action-falls g (GrantsByTransfer o w y z x) p = grants g (GrantsByTransfer o w y z x) refl refl refl
   action-falls g (AnswersWord t i ws x) p = grants g (AnswersWord t i ws x) refl refl refl
-  action-falls g (AnswersStore t i n x) p = grants g (AnswersStore t i n x) refl refl refl
+  action-falls g (AnswersStore t i f x) p = grants g (AnswersStore t i f x) refl refl refl
   action-falls g (AnswersEvict t w x) p = grants g (AnswersEvict t w x) refl refl refl
   action-falls g (PaysRequester d x) p =
       grants g (PaysRequester d x) refl refl (closed-is x.granted _ (allowed g (PaysRequester d x) p).0.granted)

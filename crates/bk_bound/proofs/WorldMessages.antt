@@ -185,8 +185,8 @@ module _ (k : Shape) (world : World) (inv : Invariant k world) (inside : Inside 
       sent (action_after g (WritesBack b x) world) 1 refl refl (one-memory _) (kept g x (record x { write_back = Idle }) p.0 refl)
   action-sent g (ReadsMemory x) p =
       sent (action_after g (ReadsMemory x) world) 1 refl refl (one-memory _) (kept g x (record x { reading = ReadAsked }) p.0.is refl)
-  action-sent g (WritesWord t i n x) p =
-      sent (action_after g (WritesWord t i n x) world) 1 refl refl (one-memory _)
+  action-sent g (WritesWord t i f x) p =
+      sent (action_after g (WritesWord t i f x) world) 1 refl refl (one-memory _)
       (kept g x (record x { written = true }) p.0.ungranted.is refl)
   action-sent g (GrantsByBlock ws y x) p =
       sent (action_after g (GrantsByBlock ws y x) world) 2 refl refl (one-command x.cache _) (none 0 (open_holders k world) refl)
@@ -196,8 +196,8 @@ module _ (k : Shape) (world : World) (inv : Invariant k world) (inside : Inside 
       sent (action_after g (GrantsByTransfer o w y z x) world) 2 refl refl (one-command o _) (none 0 (open_holders k world) refl)
   action-sent g (AnswersWord t i ws x) p =
       sent (action_after g (AnswersWord t i ws x) world) 2 refl refl (one-command x.cache _) (none 0 (open_holders k world) refl)
-  action-sent g (AnswersStore t i n x) p =
-      sent (action_after g (AnswersStore t i n x) world) 2 refl refl (one-command x.cache _) (none 0 (open_holders k world) refl)
+  action-sent g (AnswersStore t i f x) p =
+      sent (action_after g (AnswersStore t i f x) world) 2 refl refl (one-command x.cache _) (none 0 (open_holders k world) refl)
   action-sent g (AnswersEvict t w x) p =
       sent (action_after g (AnswersEvict t w x) world) 2 refl refl (one-command x.cache _) (none 0 (open_holders k world) refl)
   action-sent g (PaysRequester d x) p =

@@ -134,8 +134,8 @@ module _ (k : Shape) (world : World) (inside : Inside k world) where
 
   -- WHAT A STEP DOES, by what its row says
   abbrev pub Does : ℕ → MachineStep → Type 0
-  Does g (LoadHits c t w j) = Begins k world (step_after g (LoadHits c t w j) world)
-  Does g (StoreHits c t w j n) = Begins k world (step_after g (StoreHits c t w j n) world)
+  Does g (LoadHits c t w spot) = Begins k world (step_after g (LoadHits c t w spot) world)
+  Does g (StoreHits c t w j f) = Begins k world (step_after g (StoreHits c t w j f) world)
   Does g (Asks c w op) = Begins k world (step_after g (Asks c w op) world)
   Does g (EvictIdles c t) = Begins k world (step_after g (EvictIdles c t) world)
   Does g a = TakesMessage k world (step_after g a world)
@@ -154,8 +154,8 @@ module _ (k : Shape) (world : World) (inside : Inside k world) where
       num a b e = omega (arith, e)
 
   pub does : (g : ℕ) (a : MachineStep) → StepFits k g a world → Does g a
-  does g (LoadHits c t w j) p = unchanged (step_after g (LoadHits c t w j) world) refl refl
-  does g (StoreHits c t w j n) p = unchanged (step_after g (StoreHits c t w j n) world) refl refl
+  does g (LoadHits c t w spot) p = unchanged (step_after g (LoadHits c t w spot) world) refl refl
+  does g (StoreHits c t w j f) p = unchanged (step_after g (StoreHits c t w j f) world) refl refl
   does g (Asks c w op) p = asks g c w op
   does g (EvictIdles c t) p = unchanged (step_after g (EvictIdles c t) world) refl refl
   does g (InvComes c t rest) p = command g c (Inv t) rest (InvComes c t rest) p refl refl refl refl refl refl
@@ -163,22 +163,23 @@ module _ (k : Shape) (world : World) (inside : Inside k world) where
   does g (TransferComes c w t y peer u z rest) p =
       comes c (g, StTr t y peer u z) rest (step_after g (TransferComes c w t y peer u z rest) world) p.0 refl
       (fill-more k.caches world.fill peer c _) refl refl refl refl
-  does g (BlockLoads c t w j y ws rest) p =
-      command g c (Blk t w y ws) rest (BlockLoads c t w j y ws rest) p.0 refl refl refl refl refl refl
-  does g (BlockStores c t w j n y ws rest) p =
-      command g c (Blk t w y ws) rest (BlockStores c t w j n y ws rest) p.0 refl refl refl refl refl refl
-  does g (WakeStores c t w j n rest) p = command g c (StWake t w) rest (WakeStores c t w j n rest) p.0 refl refl refl refl refl refl
-  does g (WordComes c t w j n rest) p = command g c (UcBlk t j n) rest (WordComes c t w j n rest) p.0 refl refl refl refl refl refl
-  does g (StoreComes c t w j n rest) p = command g c (UcDone t j) rest (StoreComes c t w j n rest) p.0 refl refl refl refl refl refl
+  does g (BlockLoads c t w spot y ws rest) p =
+      command g c (Blk t w y ws) rest (BlockLoads c t w spot y ws rest) p.0 refl refl refl refl refl refl
+  does g (BlockStores c t w j f y ws rest) p =
+      command g c (Blk t w y ws) rest (BlockStores c t w j f y ws rest) p.0 refl refl refl refl refl refl
+  does g (WakeStores c t w j f rest) p = command g c (StWake t w) rest (WakeStores c t w j f rest) p.0 refl refl refl refl refl refl
+  does g (WordComes c t w spot n rest) p = command g c (UcBlk t spot.word n) rest (WordComes c t w spot n rest) p.0 refl refl refl
+      refl refl refl
+  does g (StoreComes c t w j f rest) p = command g c (UcDone t j) rest (StoreComes c t w j f rest) p.0 refl refl refl refl refl refl
   does g (EvictComes c t w rest) p = command g c (EvictDone t) rest (EvictComes c t w rest) p.0 refl refl refl refl refl refl
-  does g (FillLoads c o t w j y ws rest) p =
-      fills c o (g, record { tag = t; way = w; state = y; words = ws }) rest (step_after g (FillLoads c o t w j y ws rest) world) p.0
+  does g (FillLoads c o t w spot y ws rest) p =
+      fills c o (g, record { tag = t; way = w; state = y; words = ws }) rest (step_after g (FillLoads c o t w spot y ws rest) world) p.0
       refl refl refl refl refl refl
-  does g (FillStores c o t w j n y ws rest) p =
-      fills c o (g, record { tag = t; way = w; state = y; words = ws }) rest (step_after g (FillStores c o t w j n y ws rest) world) p.0
+  does g (FillStores c o t w j f y ws rest) p =
+      fills c o (g, record { tag = t; way = w; state = y; words = ws }) rest (step_after g (FillStores c o t w j f y ws rest) world) p.0
       refl refl refl refl refl refl
   does g (MemoryReads t rest) p = accesses (g, Read t) rest (step_after g (MemoryReads t rest) world) p refl refl refl refl refl refl
   does g (MemoryWrites t ws rest) p =
       accesses (g, Write t ws) rest (step_after g (MemoryWrites t ws rest) world) p refl refl refl refl refl refl
-  does g (MemoryWritesWord t j n rest) p =
-      accesses (g, WriteWord t j n) rest (step_after g (MemoryWritesWord t j n rest) world) p refl refl refl refl refl refl
+  does g (MemoryWritesWord t j f rest) p =
+      accesses (g, WriteWord t j f) rest (step_after g (MemoryWritesWord t j f rest) world) p refl refl refl refl refl refl

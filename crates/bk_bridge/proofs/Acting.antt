@@ -20,7 +20,7 @@ use Rattle.bk_machine.specs.Actions.{Action, Takes, Settles, CollectsAck, Collec
 use Rattle.bk_machine.specs.Actions as actions
 use Rattle.bk_machine.specs.Directory as machine
 use Rattle.bk_machine.specs.Entries.{with_state}
-use Rattle.bk_machine.specs.Messages.{StTr, Blk, StWake, UcBlk, UcDone, EvictDone, Read, Write, request_tag, request_way, Request, Response, MemoryBlock, InvAck, CohAck, answer_of}
+use Rattle.bk_machine.specs.Messages.{becomes, StTr, Blk, StWake, UcBlk, UcDone, EvictDone, Read, Write, request_tag, request_way, Request, Response, MemoryBlock, InvAck, CohAck, answer_of}
 use Rattle.bk_machine.specs.Products.{words_of, as_request, as_response, as_block}
 use Rattle.bk_machine.specs.Transactions.{Idle, ReadAsked, Transaction, new_transaction}
 use Rattle.bk_machine.specs.World.{World}
@@ -87,8 +87,8 @@ module _ (k : Shape) (core : Core) (h : Held) (x : Transaction) (world : World) 
   answered : (i : ℕ) (ws : ℕ → ℕ) → Alike (with_command_sent s h.source (UcBlk t i (ws i)) world) (AnswersWord t i ws x)
   answered i ws = λ j. with_transaction s (record x { granted = true }) (with_command_sent s (cache j) (UcBlk t i (ws i)) world)
 
-  stored : (i w : ℕ) → Alike (with_command_sent s h.source (UcDone t i) world) (AnswersStore t i w x)
-  stored i w = λ j. with_transaction s (record x { granted = true }) (with_command_sent s (cache j) (UcDone t i) world)
+  stored : (i : ℕ) (f : ℕ → ℕ) → Alike (with_command_sent s h.source (UcDone t i) world) (AnswersStore t i f x)
+  stored i f = λ j. with_transaction s (record x { granted = true }) (with_command_sent s (cache j) (UcDone t i) world)
 
   evicted : Alike (with_command_sent s h.source (EvictDone t) world) (AnswersEvict t h.way x)
   evicted = λ j. with_transaction s (record x { granted = true }) (with_command_sent s (cache j) (EvictDone t) world)
@@ -237,11 +237,12 @@ module _ (k : Shape) (core : Core) (h : Held) (x : Transaction) (world : World) 
   for-action forms.Wake a i p number = only (GrantsByWake t h.way x) a (effects.done_for k core h forms.Wake world) woken i
   for-action forms.Ucblk a i p number = word-case core.got a i
   for-action forms.Ucdone a i p number =
-      only (AnswersStore t (word_of h.addr) h.value x) a (effects.done_for k core h forms.Ucdone world) (stored (word_of h.addr) h.value) i
+      only (AnswersStore t (word_of h.addr) (becomes h.value) x) a (effects.done_for k core h forms.Ucdone world)
+          (stored (word_of h.addr) (becomes h.value)) i
   for-action forms.Done a i p number = only (AnswersEvict t h.way x) a (effects.done_for k core h forms.Done world) evicted i
   for-action forms.Memrd a i p number = only (ReadsMemory x) a (effects.done_for k core h forms.Memrd world) read i
   for-action forms.Memww a i p number =
-      only (WritesWord t (word_of h.addr) h.value x) a (effects.done_for k core h forms.Memww world) refl i
+      only (WritesWord t (word_of h.addr) (becomes h.value) x) a (effects.done_for k core h forms.Memww world) refl i
   for-action forms.Memwb a i p number = absurd (number refl)
   for-action (forms.Wde y) a i p number =
       only (PaysRequester (record { cache = h.source; way = h.way; entry = record { tag = t; state = y } }) x) a

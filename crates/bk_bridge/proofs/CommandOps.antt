@@ -14,7 +14,7 @@ use Rattle.bk_lce.specs.CacheTable as table
 use Rattle.bk_lce.specs.CacheTable.{Transition}
 use Rattle.bk_system.specs.State.{State}
 use Rattle.bk_machine.specs.Entries.{holds}
-use Rattle.bk_machine.specs.Messages.{Op, op_tag, UcLoad, UcStore, Evict, ToCache}
+use Rattle.bk_machine.specs.Messages.{whole, becomes, Op, op_tag, UcLoad, UcStore, Evict, ToCache}
 use Rattle.bk_machine.specs.Transactions.{Transaction}
 use Rattle.bk_machine.specs.Products.{words_of, op_of}
 use Rattle.bk_machine.specs.Steps.{step_after, WakeStores, with_completion}
@@ -92,7 +92,7 @@ module _ (k : Shape) (later : State) (x : Option (ℕ × Transaction)) (c : ℕ)
           × (holds (entry_of ((later.caches c).lines (group_of k addr) way)) (tag_at k addr) ≡ true)
           → left_of k x later c (table.filled_row k (later.caches c) c (ops.Store at value) at 0 way
           (table.stored_line ((later.caches c).lines (group_of k at) way) at value))
-          ≡ step_after (group_of k addr) (WakeStores c (tag_at k addr) way (word_of at) value rest) (Before k later x C)
+          ≡ step_after (group_of k addr) (WakeStores c (tag_at k addr) way (word_of at) (becomes value) rest) (Before k later x C)
       woken f g =
           let same_tag : tag_at k at ≡ tag_at k addr = eqb-true (tag_at k at) (tag_at k addr) g.0 in
           let held_tag : ((later.caches c).lines (group_of k at) way).tag ≡ tag_at k at =
@@ -135,9 +135,9 @@ module _ (k : Shape) (later : State) (x : Option (ℕ × Transaction)) (c : ℕ)
       gated _ _ (eqb (group_of k at) (group_of k addr)) true (eqb (tag_at k at) (tag_at k addr) && eqb (word_of at) (word_of addr))
       (eqb at addr) _ _ _ (words_apart k at addr sets i h)
       (λ f g. with-rest _ _
-      (done (ops.UcLoad at) at (group_of k addr) (UcLoad (tag_at k at) (word_of at)) word way refl refl (eqb-true _ _ f)
+      (done (ops.UcLoad at) at (group_of k addr) (UcLoad (tag_at k at) (whole (word_of at))) word way refl refl (eqb-true _ _ f)
       ∙ (λ j. with_completion (group_of k addr) c (UcLoad (eqb-true (tag_at k at) (tag_at k addr) (and_parts _ _ g).0 j)
-      (eqb-true (word_of at) (word_of addr) (and_parts _ _ g).1 j)) word (world_of k later x))) refl)
+      (whole (word_of at))) word (world_of k later x))) refl)
   word-op addr word way (ops.Load at) h i = shut (left_of k x later c) (Before k later x C) (eqb (group_of k at) (group_of k addr))
   word-op addr word way (ops.Store at value) h i = shut (left_of k x later c) (Before k later x C) (eqb (group_of k at) (group_of k addr))
   word-op addr word way (ops.UcStore at value) h i = shut (left_of k x later c) (Before k later x C) (eqb (group_of k at) (group_of k addr))
@@ -158,10 +158,11 @@ module _ (k : Shape) (later : State) (x : Option (ℕ × Transaction)) (c : ℕ)
   stored-op addr way (ops.UcStore at value) h i =
       gated _ _ (eqb (group_of k at) (group_of k addr)) true (eqb (tag_at k at) (tag_at k addr) && eqb (word_of at) (word_of addr))
       (eqb at addr) _ _ _ (words_apart k at addr sets i h)
-      (λ f g. with-rest _ _ (done (ops.UcStore at value) at (group_of k addr) (UcStore (tag_at k at) (word_of at) value) 0 way refl refl
+      (λ f g. with-rest _ _ (done (ops.UcStore at value) at (group_of k addr) (UcStore (tag_at k at) (word_of at) (becomes value)) 0
+          way refl refl
       (eqb-true _ _ f)
       ∙ (λ j. with_completion (group_of k addr) c (UcStore (eqb-true (tag_at k at) (tag_at k addr) (and_parts _ _ g).0 j)
-      (eqb-true (word_of at) (word_of addr) (and_parts _ _ g).1 j) value) 0 (world_of k later x))) refl)
+      (eqb-true (word_of at) (word_of addr) (and_parts _ _ g).1 j) (becomes value)) 0 (world_of k later x))) refl)
   stored-op addr way (ops.Load at) h i = shut (left_of k x later c) (Before k later x C) (eqb (group_of k at) (group_of k addr))
   stored-op addr way (ops.Store at value) h i = shut (left_of k x later c) (Before k later x C) (eqb (group_of k at) (group_of k addr))
   stored-op addr way (ops.UcLoad at) h i = shut (left_of k x later c) (Before k later x C) (eqb (group_of k at) (group_of k addr))

@@ -32,7 +32,7 @@ use Rattle.bk_system.specs.Runs.{state_after_row, after}
 use Rattle.bk_machine.specs.Actions as actions
 use Rattle.bk_machine.specs.Directory as machine
 use Rattle.bk_machine.specs.Entries as entries
-use Rattle.bk_machine.specs.Messages.{ToCache, StWb, StTr, Blk, StWake, UcBlk, UcDone, EvictDone, Read, Write, WriteWord}
+use Rattle.bk_machine.specs.Messages.{becomes, ToCache, StWb, StTr, Blk, StWake, UcBlk, UcDone, EvictDone, Read, Write, WriteWord}
 use Rattle.bk_machine.specs.Products.{as_command, as_to_memory, words_of}
 use Rattle.bk_machine.specs.Transactions.{Transaction}
 use Rattle.bk_machine.specs.World.{World}
@@ -233,7 +233,7 @@ module _ (k : Shape) (s : State) (x : Option (ℕ × Transaction)) where
     ) refl (λ j. Some (group-start k h.addr j, Read (tag-start k h.addr j)))
     for-effect r forms.Memww = memory-effect k s x (rows.WriteWord ENGINE MEMORY h.addr h.value) (
       group,
-      WriteWord tag (word_of h.addr) h.value,
+      WriteWord tag (word_of h.addr) (becomes h.value),
     ) refl refl
     for-effect r f = refl
 

@@ -13,7 +13,7 @@ use Rattle.bk_lce.specs.CacheTable as table
 use Rattle.bk_system.specs.declared.event.Event.TheVariants as events
 use Rattle.bk_system.specs.State.{State}
 use Rattle.bk_system.specs.Events.{issue_taken}
-use Rattle.bk_machine.specs.Messages.{Load, Store, Evict, Rd, Wr, EvictRequest}
+use Rattle.bk_machine.specs.Messages.{whole, becomes, Load, Store, Evict, Rd, Wr, EvictRequest}
 use Rattle.bk_machine.specs.Transactions.{Transaction}
 use Rattle.bk_machine.specs.Products.{op_of}
 use Rattle.bk_machine.specs.Steps.{MachineStep, LoadHits, StoreHits, Asks, EvictIdles}
@@ -32,8 +32,8 @@ Row-agrees k s x c t a = Agrees (left_of k x s c) (world_of k s x) (Some t) a
 
 load : (k : Shape) (s : State) (x : Option (ℕ × Transaction)) (c addr way : ℕ) (o : Option ℕ)
     → Row-agrees k s x c (table.load_row k (s.caches c) c addr way o)
-    (at_way o (λ v. Some (group_of k addr, LoadHits c (tag_at k addr) v (word_of addr)))
-    (Some (group_of k addr, Asks c way (Load (tag_at k addr) (word_of addr)))))
+    (at_way o (λ v. Some (group_of k addr, LoadHits c (tag_at k addr) v (whole (word_of addr))))
+    (Some (group_of k addr, Asks c way (Load (tag_at k addr) (whole (word_of addr))))))
 load k s x c addr way None =
     asks_row k s x c (ops.Load addr) way (rows.Rd c ENGINE way (block_start addr)) refl
     (λ i. Some (group-start k addr i, Rd (tag-start k addr i) way))
@@ -44,8 +44,8 @@ store_held : (k : Shape) (s : State) (x : Option (ℕ × Transaction)) (c addr v
     → length ((s.caches c).lines (group_of k addr) w).words ≡ 8
     → Row-agrees k s x c (cond b (table.store_hit k (s.caches c) c addr value w)
     (table.request_row (s.caches c) (ops.Store addr value) w (rows.Wr c ENGINE w (block_start addr))))
-    (cond b (Some (group_of k addr, StoreHits c (tag_at k addr) w (word_of addr) value))
-    (Some (group_of k addr, Asks c w (Store (tag_at k addr) (word_of addr) value))))
+    (cond b (Some (group_of k addr, StoreHits c (tag_at k addr) w (word_of addr) (becomes value)))
+    (Some (group_of k addr, Asks c w (Store (tag_at k addr) (word_of addr) (becomes value)))))
 store_held k s x c addr value w true e = store_hits_row k s x c addr value w e
 store_held k s x c addr value w false e =
     asks_row k s x c (ops.Store addr value) w (rows.Wr c ENGINE w (block_start addr)) refl
@@ -56,9 +56,9 @@ store : (k : Shape) (s : State) (x : Option (ℕ × Transaction)) (c addr value 
     → Row-agrees k s x c (table.store_row k (s.caches c) c addr value way o)
     (at_way o
     (λ w. cond (is_writable ((world_of k s x).entries (group_of k addr) c w).state)
-    (Some (group_of k addr, StoreHits c (tag_at k addr) w (word_of addr) value))
-    (Some (group_of k addr, Asks c w (Store (tag_at k addr) (word_of addr) value))))
-    (Some (group_of k addr, Asks c way (Store (tag_at k addr) (word_of addr) value))))
+    (Some (group_of k addr, StoreHits c (tag_at k addr) w (word_of addr) (becomes value)))
+    (Some (group_of k addr, Asks c w (Store (tag_at k addr) (word_of addr) (becomes value)))))
+    (Some (group_of k addr, Asks c way (Store (tag_at k addr) (word_of addr) (becomes value)))))
 store k s x c addr value way None e =
     asks_row k s x c (ops.Store addr value) way (rows.Wr c ENGINE way (block_start addr)) refl
     (λ i. Some (group-start k addr i, Wr (tag-start k addr i) way))
@@ -77,16 +77,16 @@ row : (k : Shape) (s : State) (x : Option (ℕ × Transaction)) (c : ℕ) (op : 
     → Row-agrees k s x c (table.issue_row k (s.caches c) c op way) (issue_row k.ways (world_of k s x) c (op_of k op).0 way (op_of k op).1)
 row k s x c (ops.Load addr) way f =
     subst (λ (o : Option ℕ). Row-agrees k s x c (table.load_row k (s.caches c) c addr way (found k (s.caches c) addr))
-    (at_way o (λ v. Some (group_of k addr, LoadHits c (tag_at k addr) v (word_of addr)))
-    (Some (group_of k addr, Asks c way (Load (tag_at k addr) (word_of addr))))))
+    (at_way o (λ v. Some (group_of k addr, LoadHits c (tag_at k addr) v (whole (word_of addr))))
+    (Some (group_of k addr, Asks c way (Load (tag_at k addr) (whole (word_of addr)))))))
     (found-find k s x c addr) (load k s x c addr way (found k (s.caches c) addr))
 row k s x c (ops.Store addr value) way f =
     subst (λ (o : Option ℕ). Row-agrees k s x c (table.store_row k (s.caches c) c addr value way (found k (s.caches c) addr))
     (at_way o
     (λ v. cond (is_writable ((world_of k s x).entries (group_of k addr) c v).state)
-    (Some (group_of k addr, StoreHits c (tag_at k addr) v (word_of addr) value))
-    (Some (group_of k addr, Asks c v (Store (tag_at k addr) (word_of addr) value))))
-    (Some (group_of k addr, Asks c way (Store (tag_at k addr) (word_of addr) value)))))
+    (Some (group_of k addr, StoreHits c (tag_at k addr) v (word_of addr) (becomes value)))
+    (Some (group_of k addr, Asks c v (Store (tag_at k addr) (word_of addr) (becomes value)))))
+    (Some (group_of k addr, Asks c way (Store (tag_at k addr) (word_of addr) (becomes value))))))
     (found-find k s x c addr) (store k s x c addr value way (found k (s.caches c) addr) (f.lines c (group_of k addr)))
 row k s x c (ops.UcLoad addr) way f = asks_row k s x c (ops.UcLoad addr) 0 (rows.UcRd c ENGINE addr) refl refl
 row k s x c (ops.UcStore addr value) way f = asks_row k s x c (ops.UcStore addr value) 0 (rows.UcWr c ENGINE addr value) refl refl

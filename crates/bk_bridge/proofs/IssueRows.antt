@@ -12,7 +12,7 @@ use Rattle.bk_lce.specs.declared.line.Line.{Line}
 use Rattle.bk_lce.specs.CacheTable as table
 use Rattle.bk_system.specs.State.{State}
 use Rattle.bk_system.specs.Events.{with_taken}
-use Rattle.bk_machine.specs.Messages.{request_of}
+use Rattle.bk_machine.specs.Messages.{whole, becomes, request_of}
 use Rattle.bk_machine.specs.Transactions.{Transaction}
 use Rattle.bk_machine.specs.Products.{words_of, op_of, as_request, as_fill, as_response, completed_of}
 use Rattle.bk_machine.specs.Steps.{step_after, Asks, LoadHits, StoreHits, EvictIdles}
@@ -57,7 +57,7 @@ asks_row k s x c op way m e f = world (record {
 pub load_hits_row : (k : Shape) (s : State) (x : Option (ℕ × Transaction)) (c addr v : ℕ)
     → world_of k (with_taken s c (table.hit_row (used (s.caches c) (group_of k addr) v) c (ops.Load addr)
     (slice_index (line_at k (s.caches c) addr v).words (word_of addr)) v)).state x
-    ≡ step_after (group_of k addr) (LoadHits c (tag_at k addr) v (word_of addr)) (world_of k s x)
+    ≡ step_after (group_of k addr) (LoadHits c (tag_at k addr) v (whole (word_of addr))) (world_of k s x)
 load_hits_row k s x c addr v = world (record {
   entries = table-kept seen_entries s.caches c _ (λ g w. refl);
   words = table-kept seen_words s.caches c _ (λ g w. refl);
@@ -82,7 +82,7 @@ load_hits_row k s x c addr v = world (record {
 pub store_hits_row : (k : Shape) (s : State) (x : Option (ℕ × Transaction)) (c addr value v : ℕ)
     → length ((s.caches c).lines (group_of k addr) v).words ≡ 8
     → world_of k (with_taken s c (table.store_hit k (s.caches c) c addr value v)).state x
-    ≡ step_after (group_of k addr) (StoreHits c (tag_at k addr) v (word_of addr) value) (world_of k s x)
+    ≡ step_after (group_of k addr) (StoreHits c (tag_at k addr) v (word_of addr) (becomes value)) (world_of k s x)
 store_hits_row k s x c addr value v e = world (record {
   entries = table-written seen_entries s.caches c _ (group_of k addr) v _ (line-of entry_of (s.caches c).lines (group_of k addr) v _);
   words = table-written seen_words s.caches c _ (group_of k addr) v _ (λ g w.

@@ -7,6 +7,7 @@ use mathlib.Core.Path.{fun_ext}
 use Rattle.bk_base.specs.Places.{Shape, block_of, block_start, word_of, group_of, tag_at, address_in}
 use Rattle.bk_base.specs.Tables.{put}
 use Rattle.bk_system.specs.Memory.{with_block, words_from}
+use Rattle.bk_machine.specs.Messages.{becomes}
 use Rattle.bk_machine.specs.Products.{words_of}
 use Rattle.bk_machine.specs.Words.{write_block, write_word}
 use Rattle.bk_bridge.specs.Worlds.{word_at}
@@ -62,7 +63,7 @@ word-at k memory addr n s t i f l h = lem (t * k.sets + s) (same_block k s t add
 
 pub word_written : (k : Shape) (memory : ℕ → ℕ) (addr n : ℕ) → 0 < k.sets → addr % 8 ≡ 0
     → word_at k (put memory addr n)
-    ≡ put (word_at k memory) (group_of k addr) (write_word (word_at k memory (group_of k addr)) (tag_at k addr) (word_of addr) n)
+    ≡ put (word_at k memory) (group_of k addr) (write_word (word_at k memory (group_of k addr)) (tag_at k addr) (word_of addr) (becomes n))
 unfolding put
 word_written k memory addr n l f = fun_ext (λ g. fun_ext (λ t. fun_ext (λ i. at g t i)))
   where
@@ -74,7 +75,7 @@ word_written k memory addr n l f = fun_ext (λ g. fun_ext (λ t. fun_ext (λ i. 
 
     at : (g t i : ℕ) → word_at k (put memory addr n) g t i
         ≡ put (word_at k memory) (group_of k addr)
-        (write_word (word_at k memory (group_of k addr)) (tag_at k addr) (word_of addr) n) g t i
+        (write_word (word_at k memory (group_of k addr)) (tag_at k addr) (word_of addr) (becomes n)) g t i
     at g t i = grind (arith, nat_tests, word-at k memory addr n g t i f, inside, place)
 
 -- what a Read answers: the words of the block, and 0 past them

@@ -15,7 +15,7 @@ use Rattle.bk_engine.specs.declared.parts.RequestKind.TheVariants as kinds
 use Rattle.bk_machine.specs.Actions.{Action, Takes, Settles, CollectsAck, CollectsAnswer, CollectsBlock, Invalidates, FlushesVictim, FlushesOwn, FlushesOwner, WritesBack, ReadsMemory, WritesWord, GrantsByBlock, GrantsByWake, GrantsByTransfer, AnswersWord, AnswersStore, AnswersEvict, PaysRequester, PaysOwner, Finishes, Idles, action_after, invalidation_targets}
 use Rattle.bk_machine.specs.Directory as machine
 use Rattle.bk_machine.specs.Entries.{with_state}
-use Rattle.bk_machine.specs.Messages.{Request, Rd, Wr, UcRd, UcWr, EvictRequest, Response, InvAck, CohAck, MemoryBlock, answer_of, request_way}
+use Rattle.bk_machine.specs.Messages.{becomes, Request, Rd, Wr, UcRd, UcWr, EvictRequest, Response, InvAck, CohAck, MemoryBlock, answer_of, request_way}
 use Rattle.bk_machine.specs.Products.{words_of, as_request, as_response, as_block}
 use Rattle.bk_machine.specs.Transactions.{Debt, Transaction, new_transaction}
 use Rattle.bk_machine.specs.World.{World}
@@ -28,7 +28,7 @@ abbrev pub request_by : Shape → RequestKind → Held → Request
 request_by k kinds.Rd h = Rd (tag_at k h.addr) h.way
 request_by k kinds.Wr h = Wr (tag_at k h.addr) h.way
 request_by k kinds.UcRd h = UcRd (tag_at k h.addr) (word_of h.addr)
-request_by k kinds.UcWr h = UcWr (tag_at k h.addr) (word_of h.addr) h.value
+request_by k kinds.UcWr h = UcWr (tag_at k h.addr) (word_of h.addr) (becomes h.value)
 request_by k kinds.Evict h = EvictRequest (tag_at k h.addr) h.way
 
 abbrev pub request_for : Shape → Held → Request
@@ -82,10 +82,10 @@ action_of k core h x world (forms.Tr owner_state state) =
 action_of k core h x world (forms.Blk state) = option_map (λ words. GrantsByBlock (words_of words) state x) core.got
 action_of k core h x world forms.Wake = Some (GrantsByWake (tag_at k h.addr) h.way x)
 action_of k core h x world forms.Ucblk = option_map (λ words. AnswersWord (tag_at k h.addr) (word_of h.addr) (words_of words) x) core.got
-action_of k core h x world forms.Ucdone = Some (AnswersStore (tag_at k h.addr) (word_of h.addr) h.value x)
+action_of k core h x world forms.Ucdone = Some (AnswersStore (tag_at k h.addr) (word_of h.addr) (becomes h.value) x)
 action_of k core h x world forms.Done = Some (AnswersEvict (tag_at k h.addr) h.way x)
 action_of k core h x world forms.Memrd = Some (ReadsMemory x)
-action_of k core h x world forms.Memww = Some (WritesWord (tag_at k h.addr) (word_of h.addr) h.value x)
+action_of k core h x world forms.Memww = Some (WritesWord (tag_at k h.addr) (word_of h.addr) (becomes h.value) x)
 action_of k core h x world forms.Memwb = kept_action k h core.dirty x
 action_of k core h x world (forms.Wde state) =
     Some (PaysRequester (record { cache = h.source; way = h.way; entry = record { tag = tag_at k h.addr; state = state } }) x)

@@ -20,7 +20,7 @@ use Rattle.bk_system.specs.Runs.{after}
 use Rattle.bk_machine.specs.Actions.{with_command_sent, invalidation_targets}
 use Rattle.bk_machine.specs.Directory as machine
 use Rattle.bk_machine.specs.Entries.{Entry, with_state, wiped_in_caches, times}
-use Rattle.bk_machine.specs.Messages.{Inv, StWb, StTr, Blk, StWake, UcBlk, UcDone, EvictDone, Read, Write, WriteWord, ToMemory}
+use Rattle.bk_machine.specs.Messages.{becomes, Inv, StWb, StTr, Blk, StWake, UcBlk, UcDone, EvictDone, Read, Write, WriteWord, ToMemory}
 use Rattle.bk_machine.specs.Products.{words_of}
 use Rattle.bk_machine.specs.Tables.{put2}
 use Rattle.bk_machine.specs.Transactions.{Transaction}
@@ -113,7 +113,8 @@ done_for k core h forms.Ucblk world = answers_word k h core.got world
 done_for k core h forms.Ucdone world = with_command_sent (group_of k h.addr) h.source (UcDone (tag_at k h.addr) (word_of h.addr)) world
 done_for k core h forms.Done world = with_command_sent (group_of k h.addr) h.source (EvictDone (tag_at k h.addr)) world
 done_for k core h forms.Memrd world = tells_memory (group_of k h.addr) (Read (tag_at k h.addr)) world
-done_for k core h forms.Memww world = tells_memory (group_of k h.addr) (WriteWord (tag_at k h.addr) (word_of h.addr) h.value) world
+done_for k core h forms.Memww world = tells_memory (group_of k h.addr)
+    (WriteWord (tag_at k h.addr) (word_of h.addr) (becomes h.value)) world
 done_for k core h f world = world
 
 abbrev pub done_held : Shape → Core → Option Held → Form → World → World

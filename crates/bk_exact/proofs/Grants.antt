@@ -22,7 +22,7 @@ use Rattle.bk_engine.specs.Heads.{kind_number}
 use Rattle.bk_engine.specs.Sends.{HasStates}
 use Rattle.bk_system.specs.State.{State}
 use Rattle.bk_machine.specs.Actions.{debt_of_requester, debt_of_owner, BlockSuits, NoneOrForward, GrantsByBlock, GrantsByWake, GrantsByTransfer, AnswersWord, AnswersStore, AnswersEvict, may_pair}
-use Rattle.bk_machine.specs.Messages.{request_suits}
+use Rattle.bk_machine.specs.Messages.{becomes, request_suits}
 use Rattle.bk_machine.specs.Products.{words_of}
 use Rattle.bk_bridge.specs.Acting.{request_by}
 use Rattle.bk_exact.specs.Agrees.{ServesHeld}
@@ -193,7 +193,8 @@ module _ (k : Shape) (s : State) (told : Told) (tied : Tied k s told) (v : Stage
   pub permits-ucdone : Met forms.Ucdone m → Moves k s told forms.Ucdone
   permits-ucdone o =
       let q = and_parts _ _ o.o16 in
-      acts-still k s told tied served forms.Ucdone (AnswersStore t (word_of h.addr) h.value x) (record x { granted = true }) refl refl (
+      acts-still k s told tied served forms.Ucdone (AnswersStore t (word_of h.addr) (becomes h.value) x)
+          (record x { granted = true }) refl refl (
         ready k s told v o.o17,
         of-kind k s told served kinds.UcWr (values.kind-uc_wr h.kind q.0),
         values.mem-written x.written x.reading q.1,

@@ -18,7 +18,7 @@ use Rattle.bk_engine.specs.Heads.{kind_number}
 use Rattle.bk_system.specs.State.{State}
 use Rattle.bk_machine.specs.Actions.{NoneOrForward, ReadsMemory, WritesWord, WritesBack}
 use Rattle.bk_machine.specs.Entries.{is_light}
-use Rattle.bk_machine.specs.Messages.{MemoryBlock, asks_read}
+use Rattle.bk_machine.specs.Messages.{becomes, MemoryBlock, asks_read}
 use Rattle.bk_machine.specs.Products.{words_of}
 use Rattle.bk_machine.specs.Transactions.{Idle, FlushKept, ReadAsked}
 use Rattle.bk_bridge.specs.Acting.{kept_action, request_by}
@@ -72,7 +72,7 @@ module _ (k : Shape) (later : State) (told : Told) (tied : Tied k later told) (v
   permits-memww o =
       let q = and7 _ _ _ _ _ _ _ o.o15 in
       let idle = values.mem-idle x.written x.reading q.6 in
-      acts-still k later told tied served forms.Memww (WritesWord (tag_at k h.addr) (word_of h.addr) h.value x)
+      acts-still k later told tied served forms.Memww (WritesWord (tag_at k h.addr) (word_of h.addr) (becomes h.value) x)
       (record x { written = true }) refl refl (
         record { ungranted = ungranted k later told v; idle = values.wb-idle x.write_back q.5; acked = no-acks k later told v q.4 },
         of-kind k later told served kinds.UcWr (values.kind-uc_wr h.kind q.0),

@@ -27,7 +27,7 @@ use Rattle.bk_engine.specs.Heads.{head_value}
 use Rattle.bk_engine.specs.Reads.{number_of}
 use Rattle.bk_system.specs.State.{State}
 use Rattle.bk_machine.specs.Actions.{Action, action_after, GrantsByBlock, GrantsByWake, GrantsByTransfer, AnswersWord, AnswersStore, AnswersEvict, ReadsMemory, WritesWord, WritesBack, debt_of_requester, debt_of_owner}
-use Rattle.bk_machine.specs.Messages.{MemoryBlock}
+use Rattle.bk_machine.specs.Messages.{becomes, MemoryBlock}
 use Rattle.bk_machine.specs.Products.{words_of}
 use Rattle.bk_machine.specs.Transactions.{Idle, ReadAsked, Transaction}
 use Rattle.bk_machine.specs.World.{World}
@@ -121,7 +121,8 @@ module _ (k : Shape) (later : State) (told : Told) (tied : Tied k later told) (v
 
   pub leads-memww : goal forms.Memww
   leads-memww =
-      sent-to forms.Memww (WritesWord (tag_at k h.addr) (word_of h.addr) h.value x) (record x { written = true }) refl refl refl refl
+      sent-to forms.Memww (WritesWord (tag_at k h.addr) (word_of h.addr) (becomes h.value) x) (record x { written = true }) refl
+          refl refl refl
       refl refl refl
       (leads-path _ _ refl)
 
@@ -174,7 +175,8 @@ module _ (k : Shape) (later : State) (told : Told) (tied : Tied k later told) (v
 
   pub leads-ucdone : goal forms.Ucdone
   leads-ucdone =
-      sent-to forms.Ucdone (AnswersStore (tag_at k h.addr) (word_of h.addr) h.value x) (record x { granted = true }) refl refl refl refl
+      sent-to forms.Ucdone (AnswersStore (tag_at k h.addr) (word_of h.addr) (becomes h.value) x) (record x { granted = true }) refl
+          refl refl refl
       refl refl refl
       (leads-path _ _ refl)
 

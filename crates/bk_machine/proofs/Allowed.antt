@@ -24,10 +24,10 @@ fits _ _ = false
 
 -- an operation that a cache can't answer by itself, with its way
 abbrev pub AskFits : Op → ℕ → (ℕ → Entry) → Type 0
-AskFits (Load t k) w h = (v : ℕ) → Holds (h v) t → ⊥
-AskFits (Store t k n) w h = (Holds (h w) t × is_writable (h w).state ≡ false) ⊎ ((v : ℕ) → Holds (h v) t → ⊥)
-AskFits (UcLoad t k) w h = w ≡ 0
-AskFits (UcStore t k n) w h = w ≡ 0
+AskFits (Load t spot) w h = (v : ℕ) → Holds (h v) t → ⊥
+AskFits (Store t k f) w h = (Holds (h w) t × is_writable (h w).state ≡ false) ⊎ ((v : ℕ) → Holds (h v) t → ⊥)
+AskFits (UcLoad t spot) w h = w ≡ 0
+AskFits (UcStore t k f) w h = w ≡ 0
 AskFits (Evict t) w h = Holds (h w) t
 
 -- the entry that a block would take the place of may be dropped
@@ -38,8 +38,8 @@ VictimLight x d = is_readable (d x.cache (request_way x.request)).state ≡ true
 
 -- what holds where a step of the group g is taken
 abbrev pub StepFits : Shape → ℕ → MachineStep → World → Type 0
-StepFits shape g (LoadHits c t w k) world = (world.busy c ≡ None) × Holds (world.entries g c w) t
-StepFits shape g (StoreHits c t w k n) world = (world.busy c ≡ None) × (Holds (world.entries g c w) t)
+StepFits shape g (LoadHits c t w spot) world = (world.busy c ≡ None) × Holds (world.entries g c w) t
+StepFits shape g (StoreHits c t w k f) world = (world.busy c ≡ None) × (Holds (world.entries g c w) t)
     × is_writable (world.entries g c w).state ≡ true
 StepFits shape g (Asks c w op) world = (world.busy c ≡ None) × (AskFits op w (world.entries g c)) × WayInRange shape c w
 StepFits shape g (EvictIdles c t) world = (world.busy c ≡ None) × ((w : ℕ) → Holds (world.entries g c w) t → ⊥)
@@ -47,29 +47,29 @@ StepFits shape g (InvComes c t rest) world = world.command c ≡ (g, Inv t) ∷ 
 StepFits shape g (FlushComes c w t x rest) world = (world.command c ≡ (g, StWb t x) ∷ rest) × Holds (world.entries g c w) t
 StepFits shape g (TransferComes c w t y peer pv x rest) world = (world.command c ≡ (g, StTr t y peer pv x) ∷ rest)
     × Holds (world.entries g c w) t
-StepFits shape g (BlockLoads c t w k x ws rest) world = (world.command c ≡ (g, Blk t w x ws) ∷ rest)
-    × world.busy c ≡ Some (g, record { op = Load t k; way = w })
-StepFits shape g (BlockStores c t w k n x ws rest) world =
-    (world.command c ≡ (g, Blk t w x ws) ∷ rest) × (world.busy c ≡ Some (g, record { op = Store t k n; way = w }))
+StepFits shape g (BlockLoads c t w spot x ws rest) world = (world.command c ≡ (g, Blk t w x ws) ∷ rest)
+    × world.busy c ≡ Some (g, record { op = Load t spot; way = w })
+StepFits shape g (BlockStores c t w k f x ws rest) world =
+    (world.command c ≡ (g, Blk t w x ws) ∷ rest) × (world.busy c ≡ Some (g, record { op = Store t k f; way = w }))
     × is_writable x ≡ true
-StepFits shape g (WakeStores c t w k n rest) world =
-    (world.command c ≡ (g, StWake t w) ∷ rest) × (world.busy c ≡ Some (g, record { op = Store t k n; way = w }))
+StepFits shape g (WakeStores c t w k f rest) world =
+    (world.command c ≡ (g, StWake t w) ∷ rest) × (world.busy c ≡ Some (g, record { op = Store t k f; way = w }))
     × Holds (world.entries g c w) t
-StepFits shape g (WordComes c t w k n rest) world = (world.command c ≡ (g, UcBlk t k n) ∷ rest)
-    × world.busy c ≡ Some (g, record { op = UcLoad t k; way = w })
-StepFits shape g (StoreComes c t w k n rest) world = (world.command c ≡ (g, UcDone t k) ∷ rest)
-    × world.busy c ≡ Some (g, record { op = UcStore t k n; way = w })
+StepFits shape g (WordComes c t w spot n rest) world = (world.command c ≡ (g, UcBlk t spot.word n) ∷ rest)
+    × world.busy c ≡ Some (g, record { op = UcLoad t spot; way = w })
+StepFits shape g (StoreComes c t w k f rest) world = (world.command c ≡ (g, UcDone t k) ∷ rest)
+    × world.busy c ≡ Some (g, record { op = UcStore t k f; way = w })
 StepFits shape g (EvictComes c t w rest) world = (world.command c ≡ (g, EvictDone t) ∷ rest)
     × world.busy c ≡ Some (g, record { op = Evict t; way = w })
-StepFits shape g (FillLoads c o t w k x ws rest) world =
+StepFits shape g (FillLoads c o t w spot x ws rest) world =
     (world.fill c o ≡ (g, record { tag = t; way = w; state = x; words = ws }) ∷ rest)
-    × world.busy c ≡ Some (g, record { op = Load t k; way = w })
-StepFits shape g (FillStores c o t w k n x ws rest) world =
+    × world.busy c ≡ Some (g, record { op = Load t spot; way = w })
+StepFits shape g (FillStores c o t w k f x ws rest) world =
     (world.fill c o ≡ (g, record { tag = t; way = w; state = x; words = ws }) ∷ rest)
-    × (world.busy c ≡ Some (g, record { op = Store t k n; way = w })) × is_writable x ≡ true
+    × (world.busy c ≡ Some (g, record { op = Store t k f; way = w })) × is_writable x ≡ true
 StepFits shape g (MemoryReads t rest) world = world.memout ≡ (g, Read t) ∷ rest
 StepFits shape g (MemoryWrites t ws rest) world = world.memout ≡ (g, Write t ws) ∷ rest
-StepFits shape g (MemoryWritesWord t k n rest) world = world.memout ≡ (g, WriteWord t k n) ∷ rest
+StepFits shape g (MemoryWritesWord t k f rest) world = world.memout ≡ (g, WriteWord t k f) ∷ rest
 
 -- a flush of the entry (o, w), which holds the tag u
 pub record FlushAllowed (g o w u : ℕ) (y : Coh) (x : Transaction) (world : World) : Type 0 where
@@ -101,8 +101,8 @@ Allowed g (WritesBack b x) world = Ungranted g x world × x.write_back ≡ Flush
 Allowed g (ReadsMemory x) world =
     Ungranted g x world × (x.write_back ≡ Idle) × (x.reading ≡ NotRead) × (asks_read x.request ≡ true)
     × ((c w : ℕ) → Holds (world.directory g c w) (request_tag x.request) → is_light (world.directory g c w).state ≡ true)
-Allowed g (WritesWord t k n x) world =
-    Ready g x world × (x.request ≡ UcWr t k n) × (x.written ≡ false) × (x.reading ≡ NotRead)
+Allowed g (WritesWord t k f x) world =
+    Ready g x world × (x.request ≡ UcWr t k f) × (x.written ≡ false) × (x.reading ≡ NotRead)
     × ((c w : ℕ) → Holds (world.directory g c w) t → ⊥)
 Allowed g (GrantsByBlock ws y x) world =
     Ready g x world × (x.reading ≡ Got ws) × (asks_block x.request ≡ true) × (request_suits x.request y ≡ true)
@@ -121,7 +121,7 @@ Allowed g (GrantsByTransfer o ow y z x) world =
     × (may_pair (world.directory g o ow).state y z ≡ true)
     × (z ≡ M → (c w : ℕ) → c ≢ x.cache → c ≢ o → Holds (world.directory g c w) (request_tag x.request) → ⊥)
 Allowed g (AnswersWord t k ws x) world = Ready g x world × (x.request ≡ UcRd t k) × x.reading ≡ Got ws
-Allowed g (AnswersStore t k n x) world = Ready g x world × (x.request ≡ UcWr t k n) × (x.written ≡ true)
+Allowed g (AnswersStore t k f x) world = Ready g x world × (x.request ≡ UcWr t k f) × (x.written ≡ true)
     × is_asked x.reading ≡ false
 Allowed g (AnswersEvict t w x) world = Ready g x world × (x.request ≡ EvictRequest t w) × is_asked x.reading ≡ false
 Allowed g (PaysRequester d x) world = Granted g x world × x.requester_debt ≡ Some d

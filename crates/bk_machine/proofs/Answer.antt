@@ -6,7 +6,7 @@ use mathlib.Core.Path.{fun_ext}
 use Rattle.bk_base.specs.Tables.{put}
 use Rattle.bk_machine.specs.Tables.{put2}
 use Rattle.bk_machine.specs.Entries.{Entry}
-use Rattle.bk_machine.specs.Messages.{UcLoad, UcStore, Evict, ToCache, UcBlk, UcDone, EvictDone, request_of}
+use Rattle.bk_machine.specs.Messages.{Spot, UcLoad, UcStore, Evict, ToCache, UcBlk, UcDone, EvictDone, request_of}
 use Rattle.bk_machine.specs.Transactions.{InProgress, WriteBack, Idle, Reading, Got, Debt, Transaction, open_transaction, granted_transaction, is_asked, with_debt_paid, paid_directory}
 use Rattle.bk_machine.specs.Phases.{NoFlush, Ack, Flight, ByWord, ByDone, Phase, Free, Open, Flying, Settling, at_cache, flight_command, flight_fill, flight_effect}
 use Rattle.bk_machine.specs.World.{GroupState}
@@ -70,30 +70,30 @@ module _ (part : GroupState) (r : ℕ) (b : InProgress) (rd : Reading) (wr : Boo
     answers = good.answers;
   }
 
-pub word_good : (part : GroupState) (r w t number : ℕ) (ws : ℕ → ℕ) (wr : Bool) (inv : ℕ → Ack)
-    → Good (Open r (record { op = UcLoad t number; way = w }) NoFlush inv)
-    (record part { transaction = Some (open_transaction r (record { op = UcLoad t number; way = w }) Idle (Got ws) wr []) })
-    → Good (Flying r (record { op = UcLoad t number; way = w }) (ByWord (ws number)))
+pub word_good : (part : GroupState) (r w t : ℕ) (spot : Spot) (ws : ℕ → ℕ) (wr : Bool) (inv : ℕ → Ack)
+    → Good (Open r (record { op = UcLoad t spot; way = w }) NoFlush inv)
+    (record part { transaction = Some (open_transaction r (record { op = UcLoad t spot; way = w }) Idle (Got ws) wr []) })
+    → Good (Flying r (record { op = UcLoad t spot; way = w }) (ByWord (ws spot.word)))
     (record part {
-      command = put part.command r (part.command r ++ UcBlk t number (ws number) ∷ []);
-      transaction = Some (granted_transaction r (record { op = UcLoad t number; way = w }) (Got ws) wr None None);
+      command = put part.command r (part.command r ++ UcBlk t spot.word (ws spot.word) ∷ []);
+      transaction = Some (granted_transaction r (record { op = UcLoad t spot; way = w }) (Got ws) wr None None);
     })
-word_good part r w t number ws wr inv good =
-    answer_good part r _ (Got ws) wr inv good refl (UcBlk t number (ws number)) (ByWord (ws number)) (λ c. refl) (λ c o. refl)
-    (λ c v h. refl) refl tt (λ u j e. not_at (UcLoad t number) w u j (wr && true) refl)
-    (good.values.ungranted.read.0 number, λ c v l. light-writable _ (good.values.ungranted.read.1 c v l))
+word_good part r w t spot ws wr inv good =
+    answer_good part r _ (Got ws) wr inv good refl (UcBlk t spot.word (ws spot.word)) (ByWord (ws spot.word)) (λ c. refl) (λ c o. refl)
+    (λ c v h. refl) refl tt (λ u j e. not_at (UcLoad t spot) w u j (wr && true) refl)
+    (good.values.ungranted.read.0 spot.word, λ c v l. light-writable _ (good.values.ungranted.read.1 c v l))
 
 -- a word was written
-pub stored_good : (part : GroupState) (r w t number n : ℕ) (rd : Reading) (inv : ℕ → Ack)
-    → Good (Open r (record { op = UcStore t number n; way = w }) NoFlush inv)
-    (record part { transaction = Some (open_transaction r (record { op = UcStore t number n; way = w }) Idle rd true []) })
+pub stored_good : (part : GroupState) (r w t number : ℕ) (change : ℕ → ℕ) (rd : Reading) (inv : ℕ → Ack)
+    → Good (Open r (record { op = UcStore t number change; way = w }) NoFlush inv)
+    (record part { transaction = Some (open_transaction r (record { op = UcStore t number change; way = w }) Idle rd true []) })
     → is_asked rd ≡ false
-    → Good (Flying r (record { op = UcStore t number n; way = w }) ByDone)
+    → Good (Flying r (record { op = UcStore t number change; way = w }) ByDone)
     (record part {
       command = put part.command r (part.command r ++ UcDone t number ∷ []);
-      transaction = Some (granted_transaction r (record { op = UcStore t number n; way = w }) rd true None None);
+      transaction = Some (granted_transaction r (record { op = UcStore t number change; way = w }) rd true None None);
     })
-stored_good part r w t number n rd inv good e =
+stored_good part r w t number change rd inv good e =
     answer_good part r _ rd true inv good e (UcDone t number) ByDone (λ c. refl) (λ c o. refl) (λ c v h. refl) refl tt (λ u j f. f)
     good.values.ungranted.written
 

@@ -1,11 +1,11 @@
 -- A block or a wake comes to the cache that waits for it.
-use Rattle.std.proofs.Common.{◌≡◌, ℕ, ◌≢◌, true, false, ◌&&◌, refl, arith, List, [], ◌∷◌, ◌++◌}
+use Rattle.std.proofs.Common.{◌≡◌, ℕ, ◌≢◌, true, false, ◌&&◌, refl, ap, arith, List, [], ◌∷◌, ◌++◌}
 use Rattle.std.specs.Prelude.{Some, None, if◌then◌else◌, ◌==◌}
 use Rattle.std.proofs.lemmas.Bool.Decides.{nat_tests}
 use Rattle.bk_base.specs.Tables.{put}
 use Rattle.bk_machine.specs.Tables.{put2}
 use Rattle.bk_machine.specs.Entries.{Holds}
-use Rattle.bk_machine.specs.Messages.{Op, Load, Store, ToCache, FillMessage, CohAck}
+use Rattle.bk_machine.specs.Messages.{Op, Spot, Load, Store, ToCache, FillMessage, CohAck}
 use Rattle.bk_machine.specs.Transactions.{InProgress, paid_directory}
 use Rattle.bk_machine.specs.Phases.{Flight, Flying, Settling, commands_of, fills_of, responses_of, requests_of}
 use Rattle.bk_machine.specs.World.{GroupState}
@@ -20,22 +20,22 @@ use Rattle.bk_base.specs.declared.coh.Coh.TheVariants.{M}
 use Rattle.bk_base.specs.States.{is_readable, is_writable, is_dirty}
 
 -- the cache takes the block, and its operation completes
-abbrev pub loaded : GroupState → ℕ → ℕ → ℕ → Coh → (ℕ → ℕ) → ℕ → GroupState
-loaded part c t w state ws j = record part {
+abbrev pub loaded : GroupState → ℕ → ℕ → ℕ → Coh → (ℕ → ℕ) → Spot → GroupState
+loaded part c t w state ws spot = record part {
   entries = put2 part.entries c w (record { tag = t; state = state });
   words = put2 part.words c w ws;
   busy = put part.busy c None;
   response = put part.response c (part.response c ++ CohAck t ∷ []);
-  history = part.history ++ record { cache = c; op = Load t j; answer = ws j } ∷ [];
+  history = part.history ++ record { cache = c; op = Load t spot; answer = spot.of (ws spot.word) } ∷ [];
 }
 
-abbrev pub stored : GroupState → ℕ → ℕ → ℕ → (ℕ → ℕ) → ℕ → ℕ → GroupState
-stored part c t w ws j n = record part {
+abbrev pub stored : GroupState → ℕ → ℕ → ℕ → (ℕ → ℕ) → ℕ → (ℕ → ℕ) → GroupState
+stored part c t w ws j change = record part {
   entries = put2 part.entries c w (record { tag = t; state = M });
-  words = put2 part.words c w (put ws j n);
+  words = put2 part.words c w (put ws j (change (ws j)));
   busy = put part.busy c None;
   response = put part.response c (part.response c ++ CohAck t ∷ []);
-  history = part.history ++ record { cache = c; op = Store t j n; answer = 0 } ∷ [];
+  history = part.history ++ record { cache = c; op = Store t j change; answer = 0 } ∷ [];
 }
 
 -- what does not turn on how the block came
@@ -125,11 +125,11 @@ module _ (part : GroupState) (c t w : ℕ) (op : Op) (state : Coh) (f : Flight)
     answers = answers;
   }
 
-module _ (part : GroupState) (c t w number : ℕ) (state : Coh) (ws : ℕ → ℕ) (f : Flight)
-    (good : Good (Flying c (record { op = Load t number; way = w }) f) part)
+module _ (part : GroupState) (c t w : ℕ) (spot : Spot) (state : Coh) (ws : ℕ → ℕ) (f : Flight)
+    (good : Good (Flying c (record { op = Load t spot; way = w }) f) part)
     (same : SameWords ws (latest part.history t))
     (old_clean : (u : ℕ) → Holds (part.entries c w) u → is_dirty (part.entries c w).state ≡ false)
-    (flies : (u j : ℕ) → (u ≡ t → is_dirty state ≡ false) → flight_away f (record { op = Load t number; way = w }) u j
+    (flies : (u j : ℕ) → (u ≡ t → is_dirty state ≡ false) → flight_away f (record { op = Load t spot; way = w }) u j
     ≡ false) where
   loaded-words : (u i v j : ℕ) → Holds (put2 part.entries c w (record { tag = t; state = state }) i v) u
       → put2 part.words c w ws i v j ≡ latest part.history u j
@@ -164,18 +164,19 @@ module _ (part : GroupState) (c t w number : ℕ) (state : Coh) (ws : ℕ → �
     ungranted = OpenValues-granted part.transaction _ _ _ good.transaction;
   }
 
-  pub loaded-answers : RightAnswers (λ u j. 0) (part.history ++ record { cache = c; op = Load t number; answer = ws number } ∷ [])
-  loaded-answers = RightAnswers-append (λ u j. 0) part.history _ good.answers (same number)
+  pub loaded-answers : RightAnswers (λ u j. 0) (part.history ++ record
+      { cache = c; op = Load t spot; answer = spot.of (ws spot.word) } ∷ [])
+  loaded-answers = RightAnswers-append (λ u j. 0) part.history _ good.answers (ap spot.of (same spot.word))
 
-module _ (part : GroupState) (c t w number n : ℕ) (ws : ℕ → ℕ) (f : Flight)
-    (good : Good (Flying c (record { op = Store t number n; way = w }) f) part)
+module _ (part : GroupState) (c t w number : ℕ) (change : ℕ → ℕ) (ws : ℕ → ℕ) (f : Flight)
+    (good : Good (Flying c (record { op = Store t number change; way = w }) f) part)
     (same : SameWords ws (latest part.history t))
     (alone : (i v : ℕ) → Holds (put2 part.entries c w (record { tag = t; state = M }) i v) t → i ≡ c)
     (one_way : OneWay (put2 part.entries c w (record { tag = t; state = M })))
     (old_clean : (u : ℕ) → u ≢ t → Holds (part.entries c w) u → is_dirty (part.entries c w).state ≡ false)
-    (flies : (u j : ℕ) → u ≢ t → flight_away f (record { op = Store t number n; way = w }) u j ≡ false) where
+    (flies : (u j : ℕ) → u ≢ t → flight_away f (record { op = Store t number change; way = w }) u j ≡ false) where
   stored-words : (u i v j : ℕ) → Holds (put2 part.entries c w (record { tag = t; state = M }) i v) u
-      → put2 part.words c w (put ws number n) i v j ≡ after_op (Store t number n) (latest part.history) u j
+      → put2 part.words c w (put ws number (change (ws number))) i v j ≡ after_op (Store t number change) (latest part.history) u j
   unfolding put2 put
   stored-words u i v j l = grind (arith, nat_tests, good.values.copies u i v j, same j, alone i v, one_way t i v w)
 
@@ -194,11 +195,12 @@ module _ (part : GroupState) (c t w number n : ℕ) (ws : ℕ → ℕ) (f : Flig
   stored-elsewhere u home = grind (arith, nat_tests, home c w)
 
   stored-memory : (u j : ℕ) → u ≢ t → effective part.memory part.memout u j ≡ latest part.history u j
-      → effective part.memory part.memout u j ≡ after_op (Store t number n) (latest part.history) u j
+      → effective part.memory part.memout u j ≡ after_op (Store t number change) (latest part.history) u j
   stored-memory u j d e = grind (arith, nat_tests)
 
   pub stored-values : Values (Settling c t) part.transaction (put2 part.entries c w (record { tag = t; state = M }))
-      (put2 part.words c w (put ws number n)) (after_op (Store t number n) (latest part.history)) (effective part.memory part.memout)
+      (put2 part.words c w (put ws number (change (ws number)))) (after_op (Store t number change) (latest part.history))
+      (effective part.memory part.memout)
   stored-values = record {
     copies = stored-words;
     memory = λ u j home. stored-memory u j (stored-elsewhere u home.clean) (good.values.memory u j (record {

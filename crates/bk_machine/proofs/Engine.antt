@@ -54,14 +54,17 @@ module _ (part : GroupState) (r : ℕ) (b : InProgress) (block : MemoryBlock) (r
       })
 
   back-written : (wr : Bool) (rq : Request) → (wr ≡ true → (request_tag rq == block.tag) ≡ false)
-      → WrittenValues wr rq part.entries (effective part.memory part.memout)
-      → WrittenValues wr rq part.entries (write_block (effective part.memory part.memout) block.tag block.words)
+      → WrittenValues wr rq part.entries (latest part.history) (effective part.memory part.memout)
+      → WrittenValues wr rq part.entries (latest part.history) (write_block (effective part.memory part.memout) block.tag block.words)
   back-written false rq f q = tt
   back-written true (Rd t w) f q = q
   back-written true (Wr t w) f q = q
   back-written true (UcRd t j) f q = q
-  back-written true (UcWr t j v) f q =
-      (subst (λ (y : Bool). (if y then block.words j else effective part.memory part.memout t j) ≡ v) (sym (f refl)) q.0, q.1)
+  back-written true (UcWr t j change) f q = (
+    subst (λ (y : Bool). (if y then block.words j else effective part.memory part.memout t j) ≡ change (latest part.history t j))
+        (sym (f refl)) q.0,
+    q.1,
+  )
   back-written true (EvictRequest t w) f q = q
 
   back-channels : MemoryChannels (Some (open_transaction r b Idle rd wr ws)) part.memory (latest part.history)
@@ -117,10 +120,10 @@ module _ (part : GroupState) (r : ℕ) (b : InProgress) (block : MemoryBlock) (r
 
 -- the operations that read memory
 abbrev pub reads_memory : Op → Bool
-reads_memory (Load t k) = true
-reads_memory (Store t k n) = true
-reads_memory (UcLoad t k) = true
-reads_memory (UcStore t k n) = false
+reads_memory (Load t spot) = true
+reads_memory (Store t k change) = true
+reads_memory (UcLoad t spot) = true
+reads_memory (UcStore t k change) = false
 reads_memory (Evict t) = false
 
 pub not_at : (op : Op) (w u j : ℕ) (b : Bool) → reads_memory op ≡ true → (b && request_at (request_of op w) u j) ≡ false
@@ -205,9 +208,9 @@ module _ (part : GroupState) (r : ℕ) (b : InProgress) (wr : Bool) (ws : List �
     answers = good.answers;
   }
 
-module _ (part : GroupState) (r w t number n : ℕ) (inv : ℕ → Ack)
-    (good : Good (Open r (record { op = UcStore t number n; way = w }) NoFlush inv)
-    (record part { transaction = Some (open_transaction r (record { op = UcStore t number n; way = w }) Idle NotRead false []) }))
+module _ (part : GroupState) (r w t number : ℕ) (change : ℕ → ℕ) (inv : ℕ → Ack)
+    (good : Good (Open r (record { op = UcStore t number change; way = w }) NoFlush inv)
+    (record part { transaction = Some (open_transaction r (record { op = UcStore t number change; way = w }) Idle NotRead false []) }))
     (none : (c v : ℕ) → Holds (part.directory c v) t → ⊥) where
   word-none : NoCopy part.entries t
   word-none c v l = lem (no_inv_is (inv c) (sym (good.transaction.acks c))) (good.copies.matches c v) (none c v)
@@ -217,25 +220,30 @@ module _ (part : GroupState) (r w t number n : ℕ) (inv : ℕ → Ack)
       lem e m f = grind arith
 
   word-memory : (u j : ℕ) → (u == t && j == number) ≡ false → effective part.memory part.memout u j ≡ latest part.history u j
-      → write_word (effective part.memory part.memout) t number n u j ≡ latest part.history u j
+      → write_word (effective part.memory part.memout) t number change u j ≡ latest part.history u j
   word-memory u j e f = grind (arith, nat_tests)
 
-  word-here : write_word (effective part.memory part.memout) t number n t number ≡ n
-  word-here = grind (arith, nat_tests)
+  -- nothing else has the word, so memory had its latest value
+  word-here : write_word (effective part.memory part.memout) t number change t number ≡ change (latest part.history t number)
+  word-here =
+      let home : effective part.memory part.memout t number ≡ latest part.history t number =
+      good.values.memory t number (record { clean = λ c v l. absurd (word-none c v l); not_flying = refl; not_kept = refl }) in
+      grind (arith, nat_tests, home)
 
-  word-channels : MemoryChannels (Some (open_transaction r (record { op = UcStore t number n; way = w }) Idle NotRead true [])) part.memory
-      (latest part.history) (part.memout ++ WriteWord t number n ∷ []) part.memin
+  word-channels : MemoryChannels (Some (open_transaction r (record { op = UcStore t number change; way = w }) Idle NotRead true []))
+      part.memory
+      (latest part.history) (part.memout ++ WriteWord t number change ∷ []) part.memin
   word-channels = record {
-    count = omega (arith, good.channels.count, read_count-append part.memout (WriteWord t number n));
-    to = ReadsFor-append _ _ _ part.memout (WriteWord t number n) good.channels.to tt;
+    count = omega (arith, good.channels.count, read_count-append part.memout (WriteWord t number change));
+    to = ReadsFor-append _ _ _ part.memout (WriteWord t number change) good.channels.to tt;
     back = good.channels.back;
   }
 
   -- No cache has the block. Until the store completes the transaction has the word, so memory may be ahead of its latest value.
-  pub word_good : Good (Open r (record { op = UcStore t number n; way = w }) NoFlush inv)
+  pub word_good : Good (Open r (record { op = UcStore t number change; way = w }) NoFlush inv)
       (record part {
-        memout = part.memout ++ WriteWord t number n ∷ [];
-        transaction = Some (open_transaction r (record { op = UcStore t number n; way = w }) Idle NotRead true []);
+        memout = part.memout ++ WriteWord t number change ∷ [];
+        transaction = Some (open_transaction r (record { op = UcStore t number change; way = w }) Idle NotRead true []);
       })
   word_good = record {
     commands = good.commands;

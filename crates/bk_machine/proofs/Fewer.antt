@@ -35,10 +35,10 @@ module _ {new old : ℕ → ℕ → Entry} (f : Fewer new old) where
   NoCopy-fewer t n c w k = n c w (f.holds c w t k)
 
   pub WaitingCopies-fewer : (op : Op) (w c : ℕ) → WaitingCopies op w (old c) → WaitingCopies op w (new c)
-  WaitingCopies-fewer (Load t k) w c p = λ v h. p v (f.holds c v t h)
-  WaitingCopies-fewer (Store t k x) w c p = λ v h. ((p v (f.holds c v t h)).0, f.writes c v t h (p v (f.holds c v t h)).1)
-  WaitingCopies-fewer (UcLoad t k) w c p = tt
-  WaitingCopies-fewer (UcStore t k x) w c p = tt
+  WaitingCopies-fewer (Load t spot) w c p = λ v h. p v (f.holds c v t h)
+  WaitingCopies-fewer (Store t k change) w c p = λ v h. ((p v (f.holds c v t h)).0, f.writes c v t h (p v (f.holds c v t h)).1)
+  WaitingCopies-fewer (UcLoad t spot) w c p = tt
+  WaitingCopies-fewer (UcStore t k change) w c p = tt
   WaitingCopies-fewer (Evict t) w c p = tt
 
   pub FlushValues-fewer : (fl : Flush) (v : ℕ → ℕ → ℕ) → FlushValues fl old v → FlushValues fl new v
@@ -47,12 +47,12 @@ module _ {new old : ℕ → ℕ → Entry} (f : Fewer new old) where
   FlushValues-fewer (FlushDone o t None) v p = tt
   FlushValues-fewer (FlushDone o t (Some ws)) v p = (p.0, NoWriter-fewer t p.1)
 
-  pub StoredAt-fewer : (op : Op) (a : ℕ → ℕ → ℕ) → StoredAt op old a → StoredAt op new a
-  StoredAt-fewer (Load t k) a p = tt
-  StoredAt-fewer (Store t k x) a p = tt
-  StoredAt-fewer (UcLoad t k) a p = tt
-  StoredAt-fewer (UcStore t k x) a p = (p.0, NoCopy-fewer t p.1)
-  StoredAt-fewer (Evict t) a p = tt
+  pub StoredAt-fewer : (op : Op) (v a : ℕ → ℕ → ℕ) → StoredAt op old v a → StoredAt op new v a
+  StoredAt-fewer (Load t spot) v a p = tt
+  StoredAt-fewer (Store t k change) v a p = tt
+  StoredAt-fewer (UcLoad t spot) v a p = tt
+  StoredAt-fewer (UcStore t k change) v a p = (p.0, NoCopy-fewer t p.1)
+  StoredAt-fewer (Evict t) v a p = tt
 
   pub FlightValues-fewer : (x : Flight) (b : InProgress) (v a : ℕ → ℕ → ℕ) → FlightValues x b old v a
       → FlightValues x b new v a
@@ -61,7 +61,7 @@ module _ {new old : ℕ → ℕ → Entry} (f : Fewer new old) where
   FlightValues-fewer (ByTransfer o ow y x) b v a p = tt
   FlightValues-fewer (ByFill o x ws) b v a p = p
   FlightValues-fewer (ByWord n) b v a p = (p.0, NoWriter-fewer (op_tag b.op) p.1)
-  FlightValues-fewer ByDone b v a p = StoredAt-fewer b.op a p
+  FlightValues-fewer ByDone b v a p = StoredAt-fewer b.op v a p
 
   pub KeptValues-fewer : (x : WriteBack) (v : ℕ → ℕ → ℕ) → KeptValues x old v → KeptValues x new v
   KeptValues-fewer Idle v p = tt
@@ -77,20 +77,20 @@ module _ {new old : ℕ → ℕ → Entry} (f : Fewer new old) where
   ReadValues-fewer test ReadAsked t v p = AllLight-fewer test t p
   ReadValues-fewer test (Got ws) t v p = (p.0, AllLight-fewer test t p.1)
 
-  pub WrittenValues-fewer : (b : Bool) (r : Request) (a : ℕ → ℕ → ℕ) → WrittenValues b r old a → WrittenValues b r new a
-  WrittenValues-fewer false r a p = tt
-  WrittenValues-fewer true (Rd t w) a p = p
-  WrittenValues-fewer true (Wr t w) a p = p
-  WrittenValues-fewer true (UcRd t k) a p = p
-  WrittenValues-fewer true (UcWr t k b) a p = (p.0, NoCopy-fewer t p.1)
-  WrittenValues-fewer true (EvictRequest t w) a p = p
+  pub WrittenValues-fewer : (b : Bool) (r : Request) (v a : ℕ → ℕ → ℕ) → WrittenValues b r old v a → WrittenValues b r new v a
+  WrittenValues-fewer false r v a p = tt
+  WrittenValues-fewer true (Rd t w) v a p = p
+  WrittenValues-fewer true (Wr t w) v a p = p
+  WrittenValues-fewer true (UcRd t k) v a p = p
+  WrittenValues-fewer true (UcWr t k change) v a p = (p.0, NoCopy-fewer t p.1)
+  WrittenValues-fewer true (EvictRequest t w) v a p = p
 
   pub TransactionValues-fewer : Lighter new old → (x : Transaction) (v a : ℕ → ℕ → ℕ) → TransactionValues x old v a
       → TransactionValues x new v a
   TransactionValues-fewer test x v a p = record {
     kept = KeptValues-fewer x.write_back v p.kept;
     read = ReadValues-fewer test x.reading (request_tag x.request) v p.read;
-    written = WrittenValues-fewer x.written x.request a p.written;
+    written = WrittenValues-fewer x.written x.request v a p.written;
   }
 
   pub OpenValues-fewer : Lighter new old → (x : Option Transaction) (v a : ℕ → ℕ → ℕ) → OpenValues x old v a

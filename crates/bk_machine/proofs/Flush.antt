@@ -17,15 +17,15 @@ use Rattle.bk_machine.proofs.Send.{request-tag}
 use Rattle.bk_base.specs.declared.coh.Coh.{Coh}
 use Rattle.bk_base.specs.States.{is_readable, is_writable, is_owner_like}
 
-written-none : (wr : Bool) (op : Op) (w : ℕ) (h : ℕ → ℕ → Entry) (a : ℕ → ℕ → ℕ) → wr ≡ true
-    → WrittenValues wr (request_of op w) h a
+written-none : (wr : Bool) (op : Op) (w : ℕ) (h : ℕ → ℕ → Entry) (v a : ℕ → ℕ → ℕ) → wr ≡ true
+    → WrittenValues wr (request_of op w) h v a
     → NoCopy h (op_tag op)
-written-none false op w h a e q = absurd (cc e)
-written-none true (Load t k) w h a e q = absurd q
-written-none true (Store t k n) w h a e q = absurd q
-written-none true (UcLoad t k) w h a e q = absurd q
-written-none true (UcStore t k n) w h a e q = q.1
-written-none true (Evict t) w h a e q = absurd q
+written-none false op w h v a e q = absurd (cc e)
+written-none true (Load t spot) w h v a e q = absurd q
+written-none true (Store t k change) w h v a e q = absurd q
+written-none true (UcLoad t spot) w h v a e q = absurd q
+written-none true (UcStore t k change) w h v a e q = q.1
+written-none true (Evict t) w h v a e q = absurd q
 
 OneOwner-weaker : (c w : ℕ) (state : Coh) (d : ℕ → ℕ → Entry) → is_owner_like state ≡ false
     → is_readable (d c w).state ≡ true → OneOwner d
@@ -102,7 +102,7 @@ module _ (part : GroupState) (r o ow u : ℕ) (state : Coh) (b : InProgress) (rd
 
   flush-apart : wr ≡ true → (request_tag (request_of b.op b.way) == u) ≡ false
   flush-apart e = lem (request_tag (request_of b.op b.way)) (request-tag b.op b.way)
-      (λ s. written-none wr b.op b.way part.entries _ e good.values.ungranted.written o ow
+      (λ s. written-none wr b.op b.way part.entries _ _ e good.values.ungranted.written o ow
       (subst (λ (t : ℕ). Holds (part.entries o ow) t) s aims))
     where
       lem : (t : ℕ) → t ≡ op_tag b.op → (u ≡ op_tag b.op → ⊥) → (t == u) ≡ false

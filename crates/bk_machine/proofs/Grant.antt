@@ -69,10 +69,10 @@ module _ (part : GroupState) (r : ℕ) (b : InProgress) (rd : Reading) (wr : Boo
 
 -- the operations that want a block
 abbrev pub wants_block : Op → Bool
-wants_block (Load t k) = true
-wants_block (Store t k n) = true
-wants_block (UcLoad t k) = false
-wants_block (UcStore t k n) = false
+wants_block (Load t spot) = true
+wants_block (Store t k change) = true
+wants_block (UcLoad t spot) = false
+wants_block (UcStore t k change) = false
 wants_block (Evict t) = false
 
 pub wants-reads : (op : Op) → wants_block op ≡ true → reads_memory op ≡ true
@@ -80,10 +80,10 @@ wants-reads op e = grind arith
 
 pub placed-op : (op : Op) (w : ℕ) (h : ℕ → Entry) → wants_block op ≡ true → WaitingCopies op w h → (v : ℕ) → v ≢ w
     → Holds (h v) (op_tag op) → ⊥
-placed-op (Load t k) w h e p = λ v n k. p v k
-placed-op (Store t k n) w h e p = λ v n k. n (p v k).0
-placed-op (UcLoad t k) w h e p = absurd (cc e)
-placed-op (UcStore t k n) w h e p = absurd (cc e)
+placed-op (Load t spot) w h e p = λ v n k. p v k
+placed-op (Store t j change) w h e p = λ v n k. n (p v k).0
+placed-op (UcLoad t spot) w h e p = absurd (cc e)
+placed-op (UcStore t k change) w h e p = absurd (cc e)
 placed-op (Evict t) w h e p = absurd (cc e)
 
 pub covered-holds : (d h : Entry) (t : ℕ) → Matches d h → Holds d t → Holds h t
@@ -171,9 +171,9 @@ module _ (part : GroupState) (r : ℕ) (b : InProgress) (ws : ℕ → ℕ) (wr :
   }
 
 -- a wake
-module _ (part : GroupState) (r w t number n : ℕ) (rd : Reading) (wr : Bool) (inv : ℕ → Ack)
-    (good : Good (Open r (record { op = Store t number n; way = w }) NoFlush inv)
-    (record part { transaction = Some (open_transaction r (record { op = Store t number n; way = w }) Idle rd wr []) }))
+module _ (part : GroupState) (r w t number : ℕ) (change : ℕ → ℕ) (rd : Reading) (wr : Bool) (inv : ℕ → Ack)
+    (good : Good (Open r (record { op = Store t number change; way = w }) NoFlush inv)
+    (record part { transaction = Some (open_transaction r (record { op = Store t number change; way = w }) Idle rd wr []) }))
     (not_asked : is_asked rd ≡ false)
     (own : (v : ℕ) × Holds (part.directory r v) t)
     (others : (c v : ℕ) → c ≢ r → Holds (part.directory c v) t → ⊥) where
@@ -218,10 +218,10 @@ module _ (part : GroupState) (r w t number n : ℕ) (rd : Reading) (wr : Bool) (
   not_reading = rw not_asked refl
 
   -- No other cache has the block and the requester has it at the request's way: its debt of M is the entry that the wake makes.
-  pub wake_good : Good (Flying r (record { op = Store t number n; way = w }) ByWake) (record part {
+  pub wake_good : Good (Flying r (record { op = Store t number change; way = w }) ByWake) (record part {
     command = put part.command r (part.command r ++ StWake t w ∷ []);
     transaction =
-        Some (granted_transaction r (record { op = Store t number n; way = w }) rd wr
+        Some (granted_transaction r (record { op = Store t number change; way = w }) rd wr
         (Some (record { cache = r; way = w; entry = record { tag = t; state = M } })) None);
   })
   wake_good = record {
@@ -248,12 +248,13 @@ module _ (part : GroupState) (r w t number n : ℕ) (rd : Reading) (wr : Bool) (
       memory = λ u j home. good.values.memory u j (record {
         clean = home.clean;
         not_flying = refl;
-        not_kept = not_at (Store t number n) w u j (wr && true) refl;
+        not_kept = not_at (Store t number change) w u j (wr && true) refl;
       });
       flying = tt;
       ungranted = tt;
     };
-    channels = channels-none (Some (open_transaction r (record { op = Store t number n; way = w }) Idle rd wr [])) _ _ _ _ _ _ not_reading
+    channels = channels-none (Some (open_transaction r (record { op = Store t number change; way = w }) Idle rd wr [])) _ _ _ _ _ _
+        not_reading
         refl good.channels;
     kind = refl;
     answers = good.answers;

@@ -22,22 +22,22 @@ RightAnswers-append v (x ∷ ds) d p q = (p.0, RightAnswers-append (after_op x.o
 abbrev pub effect : ToMemory → (ℕ → ℕ → ℕ) → ℕ → ℕ → ℕ
 effect (Read t) m = m
 effect (Write t ws) m = write_block m t ws
-effect (WriteWord t k n) m = write_word m t k n
+effect (WriteWord t k change) m = write_word m t k change
 
 pub effective-append : (m : ℕ → ℕ → ℕ) (ms : List ToMemory) (x : ToMemory)
     → effective m (ms ++ x ∷ []) ≡ effect x (effective m ms)
 effective-append m [] (Read t) = refl
 effective-append m [] (Write t ws) = refl
-effective-append m [] (WriteWord t k n) = refl
+effective-append m [] (WriteWord t k change) = refl
 effective-append m (Read t ∷ ms) x = effective-append m ms x
 effective-append m (Write t ws ∷ ms) x = effective-append (write_block m t ws) ms x
-effective-append m (WriteWord t k n ∷ ms) x = effective-append (write_word m t k n) ms x
+effective-append m (WriteWord t k change ∷ ms) x = effective-append (write_word m t k change) ms x
 
 pub read_count-append : (ms : List ToMemory) (x : ToMemory) → read_count (ms ++ x ∷ []) ≡ read_count ms + read_count (x ∷ [])
 read_count-append [] x = grind arith
 read_count-append (Read t ∷ ms) x = omega (arith, read_count-append ms x)
 read_count-append (Write t ws ∷ ms) x = read_count-append ms x
-read_count-append (WriteWord t k n ∷ ms) x = read_count-append ms x
+read_count-append (WriteWord t k change ∷ ms) x = read_count-append ms x
 
 pub ReadsFor-append : (t : ℕ) (ws : ℕ → ℕ) (m : ℕ → ℕ → ℕ) (ms : List ToMemory) (x : ToMemory) → ReadsFor t ws m ms
     → ReadsFor t ws (effective m ms) (x ∷ [])
@@ -45,7 +45,7 @@ pub ReadsFor-append : (t : ℕ) (ws : ℕ → ℕ) (m : ℕ → ℕ → ℕ) (ms
 ReadsFor-append t ws m [] x p q = q
 ReadsFor-append t ws m (Read u ∷ ms) x p q = (p.0, p.1, ReadsFor-append t ws m ms x p.2 q)
 ReadsFor-append t ws m (Write u xs ∷ ms) x p q = ReadsFor-append t ws (write_block m u xs) ms x p q
-ReadsFor-append t ws m (WriteWord u k n ∷ ms) x p q = ReadsFor-append t ws (write_word m u k n) ms x p q
+ReadsFor-append t ws m (WriteWord u k change ∷ ms) x p q = ReadsFor-append t ws (write_word m u k change) ms x p q
 
 -- where there is no Read, any words are those found
 pub ReadsFor-none : (t u : ℕ) (ws : ℕ → ℕ) (m : ℕ → ℕ → ℕ) (ms : List ToMemory) → read_count ms ≡ 0
@@ -53,14 +53,14 @@ pub ReadsFor-none : (t u : ℕ) (ws : ℕ → ℕ) (m : ℕ → ℕ → ℕ) (ms
 ReadsFor-none t u ws m [] e = tt
 ReadsFor-none t u ws m (Read x ∷ ms) e = absurd (omega arith)
 ReadsFor-none t u ws m (Write x xs ∷ ms) e = ReadsFor-none t u ws (write_block m x xs) ms e
-ReadsFor-none t u ws m (WriteWord x k n ∷ ms) e = ReadsFor-none t u ws (write_word m x k n) ms e
+ReadsFor-none t u ws m (WriteWord x k change ∷ ms) e = ReadsFor-none t u ws (write_word m x k change) ms e
 
 pub ReadsFor-same : (t : ℕ) (ws us : ℕ → ℕ) (m : ℕ → ℕ → ℕ) (ms : List ToMemory) → SameWords ws us
     → ReadsFor t ws m ms → ReadsFor t us m ms
 ReadsFor-same t ws us m [] e p = tt
 ReadsFor-same t ws us m (Read u ∷ ms) e p = (p.0, (λ k. p.1 k ∙ e k), ReadsFor-same t ws us m ms e p.2)
 ReadsFor-same t ws us m (Write u xs ∷ ms) e p = ReadsFor-same t ws us (write_block m u xs) ms e p
-ReadsFor-same t ws us m (WriteWord u k n ∷ ms) e p = ReadsFor-same t ws us (write_word m u k n) ms e p
+ReadsFor-same t ws us m (WriteWord u k change ∷ ms) e p = ReadsFor-same t ws us (write_word m u k change) ms e p
 
 pub BlocksFor-append : (t : ℕ) (ws : ℕ → ℕ) (bs : List MemoryBlock) (b : MemoryBlock) → BlocksFor t ws bs → b.tag ≡ t
     → SameWords b.words ws

@@ -1,18 +1,18 @@
 -- A cache is given an operation.
-use Rattle.std.proofs.Common.{◌≡◌, ℕ, ◌≢◌, Bool, true, false, ◌&&◌, refl, arith, [], ◌∷◌, ◌++◌, sym, ◌∙◌, subst, true≢false}
+use Rattle.std.proofs.Common.{◌≡◌, ℕ, ◌≢◌, Bool, true, false, ◌&&◌, refl, arith, [], ◌∷◌, ◌++◌, sym, ap, ◌∙◌, subst, true≢false}
 use Rattle.std.specs.Prelude.{Option, Some, None, if◌then◌else◌, ◌==◌}
 use Rattle.std.proofs.lemmas.Bool.Decides.{nat_tests}
 use Rattle.std.specs.Bool.{OnFalse}
 use Rattle.bk_base.specs.Tables.{put}
 use Rattle.bk_machine.specs.Tables.{put2}
 use Rattle.bk_machine.specs.Entries.{Entry, Holds, with_state}
-use Rattle.bk_machine.specs.Messages.{Op, Load, Store, UcLoad, UcStore, Evict, Request, Rd, Wr, UcRd, UcWr, EvictRequest, op_tag, request_of, op_word, request_tag}
+use Rattle.bk_machine.specs.Messages.{Op, Spot, Load, Store, UcLoad, UcStore, Evict, Request, Rd, Wr, UcRd, UcWr, EvictRequest, op_tag, request_of, op_word, request_tag}
 use Rattle.bk_machine.specs.Transactions.{InProgress, WriteBack, Idle, FlushAsked, FlushKept, Reading, NotRead, ReadAsked, Got, Transaction, paid_directory}
 use Rattle.bk_machine.specs.Phases.{Flush, NoFlush, FlushSent, FlushDone, Ack, Flight, ByBlock, ByWake, ByTransfer, ByFill, ByWord, ByDone, Phase, Free, Open, Flying, Settling, is_taken, requests_of, expected_entry, flush_effect, inv_effect, flight_effect}
 use Rattle.bk_machine.specs.World.{GroupState}
 use Rattle.bk_machine.specs.Words.{latest, effective, after_op, answer_is}
 use Rattle.bk_machine.specs.Copies.{Matches, Invalidating, Standing, Alone, FlushAims, FlightAims}
-use Rattle.bk_machine.specs.Values.{NoWriter, AllLight, SameWords, AtHome, PhaseValues, FlushValues, FlightValues, StoredAt, KeptValues, ReadValues, WrittenValues, TransactionValues, OpenValues, MemoryChannels, is_reading, transaction_tag}
+use Rattle.bk_machine.specs.Values.{NoWriter, NoCopy, AllLight, SameWords, AtHome, PhaseValues, FlushValues, FlightValues, StoredAt, KeptValues, ReadValues, WrittenValues, TransactionValues, OpenValues, MemoryChannels, is_reading, transaction_tag}
 use Rattle.bk_machine.specs.Invariant.{Good, Taker, WaitingCopies}
 use Rattle.bk_machine.proofs.Growing.{values-append, RightAnswers-append, ReadsFor-same, BlocksFor-same}
 use Rattle.bk_machine.proofs.Unchanged.{still-good}
@@ -35,8 +35,9 @@ module _ (p : Phase) (part : GroupState) (good : Good p part) where
       still-good part.memory part.memout part.memin _ good (Values-at same good.values) (channels-at same good.channels)
       (RightAnswers-append (λ u j. 0) part.history _ good.answers a)
 
-  pub load_hits : (c t w number : ℕ) → Holds (part.entries c w) t → Good p (completed part c (Load t number) (part.words c w number))
-  load_hits c t w number l = completed-good c (Load t number) _ refl (good.values.copies t c w number l)
+  pub load_hits : (c t w : ℕ) (spot : Spot) → Holds (part.entries c w) t
+      → Good p (completed part c (Load t spot) (spot.of (part.words c w spot.word)))
+  load_hits c t w spot l = completed-good c (Load t spot) _ refl (ap spot.of (good.values.copies t c w spot.word l))
 
   pub evict_idles : (c t : ℕ) → Good p (completed part c (Evict t) 0)
   evict_idles c t = completed-good c (Evict t) 0 refl refl
@@ -137,14 +138,14 @@ landing-apart d h r y c w t u state one e n m k z same =
     true≢false (sym there.1 ∙ one t c w r y there.0 here (λ q. n (sym q)))
 
 -- a store to a block that the cache may write
-abbrev pub store_hit : GroupState → ℕ → ℕ → ℕ → ℕ → ℕ → GroupState
-store_hit part c t w j n = record part {
+abbrev pub store_hit : GroupState → ℕ → ℕ → ℕ → ℕ → (ℕ → ℕ) → GroupState
+store_hit part c t w j change = record part {
   entries = put2 part.entries c w (with_state (part.entries c w) M);
-  words = put2 part.words c w (put (part.words c w) j n);
-  history = part.history ++ record { cache = c; op = Store t j n; answer = 0 } ∷ [];
+  words = put2 part.words c w (put (part.words c w) j (change (part.words c w j)));
+  history = part.history ++ record { cache = c; op = Store t j change; answer = 0 } ∷ [];
 }
 
-module _ (p : Phase) (part : GroupState) (c t w number n : ℕ) (good : Good p part) (idle : part.busy c ≡ None)
+module _ (p : Phase) (part : GroupState) (c t w number : ℕ) (change : ℕ → ℕ) (good : Good p part) (idle : part.busy c ≡ None)
     (has : Holds (part.entries c w) t) (writes : is_writable (part.entries c w).state ≡ true) where
   abbrev h : ℕ → ℕ → Entry
   h = put2 part.entries c w (with_state (part.entries c w) M)
@@ -225,12 +226,12 @@ module _ (p : Phase) (part : GroupState) (c t w number n : ℕ) (good : Good p p
   v = latest part.history
 
   abbrev v2 : ℕ → ℕ → ℕ
-  v2 = after_op (Store t number n) (latest part.history)
+  v2 = after_op (Store t number change) (latest part.history)
 
   abbrev a : ℕ → ℕ → ℕ
   a = effective part.memory part.memout
 
-  hit-same : (u : ℕ) → u ≢ t → SameWords (latest part.history u) (after_op (Store t number n) (latest part.history) u)
+  hit-same : (u : ℕ) → u ≢ t → SameWords (latest part.history u) (after_op (Store t number change) (latest part.history) u)
   hit-same u d j = grind (arith, nat_tests)
 
   hit-apart : (u : ℕ) → NoWriter part.entries u → u ≢ t
@@ -240,7 +241,8 @@ module _ (p : Phase) (part : GroupState) (c t w number n : ℕ) (good : Good p p
   light-apart u none = grind (arith, nat_tests, none c w)
 
   hit-words : (u i y j : ℕ) → Holds (put2 part.entries c w (with_state (part.entries c w) M) i y) u
-      → put2 part.words c w (put (part.words c w) number n) i y j ≡ after_op (Store t number n) (latest part.history) u j
+      → put2 part.words c w (put (part.words c w) number (change (part.words c w number))) i y j
+      ≡ after_op (Store t number change) (latest part.history) u j
   unfolding put2 put
   hit-words u i y j l = grind (arith, nat_tests, good.values.copies u i y j, good.copies.real_way t c w y, good.copies.real_alone t c w i y)
 
@@ -275,11 +277,17 @@ module _ (p : Phase) (part : GroupState) (c t w number n : ℕ) (good : Good p p
   not_busy : (r : ℕ) (b : InProgress) → part.busy r ≡ Some b → r ≢ c
   not_busy r b e = grind (arith, nat_tests)
 
-  hit-done : (op : Op) → StoredAt op part.entries a → StoredAt op (put2 part.entries c w (with_state (part.entries c w) M)) a
-  hit-done (Load u j) q = tt
-  hit-done (Store u j x) q = tt
-  hit-done (UcLoad u j) q = tt
-  hit-done (UcStore u j x) q = (q.0, NoCopy-fewer fewer u q.1)
+  -- what was stored past the caches is into a block that no cache has, so not into this one
+  hit-stored : (u j : ℕ) (f : ℕ → ℕ) → (a u j ≡ f (v u j)) × NoCopy part.entries u
+      → (a u j ≡ f (v2 u j)) × NoCopy (put2 part.entries c w (with_state (part.entries c w) M)) u
+  hit-stored u j f q =
+      (q.0 ∙ ap f (hit-same u (λ e. q.1 c w (subst (Holds (part.entries c w)) (sym e) has)) j), NoCopy-fewer fewer u q.1)
+
+  hit-done : (op : Op) → StoredAt op part.entries v a → StoredAt op (put2 part.entries c w (with_state (part.entries c w) M)) v2 a
+  hit-done (Load u spot) q = tt
+  hit-done (Store u j f) q = tt
+  hit-done (UcLoad u spot) q = tt
+  hit-done (UcStore u j f) q = hit-stored u j f q
   hit-done (Evict u) q = tt
 
   hit-flying : (r : ℕ) (b : InProgress) (f : Flight) → part.busy r ≡ Some b
@@ -317,13 +325,13 @@ module _ (p : Phase) (part : GroupState) (c t w number n : ℕ) (good : Good p p
   hit-read ReadAsked u q = AllLight-fewer fewer lighter u q
   hit-read (Got ws) u q = ((λ j. q.0 j ∙ hit-same u (light-apart u q.1) j), AllLight-fewer fewer lighter u q.1)
 
-  hit-written : (b : Bool) (rq : Request) → WrittenValues b rq part.entries a
-      → WrittenValues b rq (put2 part.entries c w (with_state (part.entries c w) M)) a
+  hit-written : (b : Bool) (rq : Request) → WrittenValues b rq part.entries v a
+      → WrittenValues b rq (put2 part.entries c w (with_state (part.entries c w) M)) v2 a
   hit-written false rq q = tt
   hit-written true (Rd u y) q = q
   hit-written true (Wr u y) q = q
   hit-written true (UcRd u j) q = q
-  hit-written true (UcWr u j z) q = (q.0, NoCopy-fewer fewer u q.1)
+  hit-written true (UcWr u j f) q = hit-stored u j f q
   hit-written true (EvictRequest u y) q = q
 
   hit-transaction : (granted : Bool) (x : Transaction) → OnFalse granted (TransactionValues x part.entries v a)
@@ -360,7 +368,7 @@ module _ (p : Phase) (part : GroupState) (c t w number n : ℕ) (good : Good p p
       ∙ hit-same u d j
 
   -- The copy may be written, so no other cache has the block: the word changes in it and in the latest values alike.
-  pub store_hits : Good p (store_hit part c t w number n)
+  pub store_hits : Good p (store_hit part c t w number change)
   store_hits = record {
     commands = good.commands;
     fills = good.fills;

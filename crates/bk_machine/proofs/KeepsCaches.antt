@@ -3,7 +3,7 @@ use Rattle.std.proofs.Common.{◌≡◌, ℕ, true, false, subst, List, [], ◌�
 use Rattle.std.specs.Prelude.{Some, None}
 use Rattle.bk_base.specs.declared.coh.Coh.{Coh}
 use Rattle.bk_machine.specs.Entries.{Entry, Holds}
-use Rattle.bk_machine.specs.Messages.{Op, Load, Store, UcLoad, UcStore, Evict, ToCache, Inv, StWb, StTr, Blk, StWake, UcBlk, UcDone, EvictDone, FillMessage, InvAck, ToMemory, Read, Write, WriteWord}
+use Rattle.bk_machine.specs.Messages.{Spot, Op, Load, Store, UcLoad, UcStore, Evict, ToCache, Inv, StWb, StTr, Blk, StWake, UcBlk, UcDone, EvictDone, FillMessage, InvAck, ToMemory, Read, Write, WriteWord}
 use Rattle.bk_machine.specs.Words.{write_block, write_word}
 use Rattle.bk_machine.specs.Copies.{OneWay}
 use Rattle.bk_machine.specs.Invariant.{WaitingCopies}
@@ -63,18 +63,18 @@ module _ (g : ℕ) (world : World) (all : EveryGroup world) where
       (λ u n. fill-other u peer c (pushed_other u g (world.fill peer c) _ n)
       (command-other u c (left_other u g (world.command c) rest (StTr t y peer pv state) n e) (entries-other u g _ n (seen u world))))
 
-  pub keeps_load_hit : (c t w j : ℕ) → world.busy c ≡ None → Holds (world.entries g c w) t
-      → EveryGroup (step_after g (LoadHits c t w j) world)
-  keeps_load_hit c t w j e l = step g world _ (completed (view g world) c (Load t j) (world.words g c w j)) all
-      (λ p good. (p, load_hits p (view g world) good c t w j l))
+  pub keeps_load_hit : (c t w : ℕ) (spot : Spot) → world.busy c ≡ None → Holds (world.entries g c w) t
+      → EveryGroup (step_after g (LoadHits c t w spot) world)
+  keeps_load_hit c t w spot e l = step g world _ (completed (view g world) c (Load t spot) (spot.of (world.words g c w spot.word))) all
+      (λ p good. (p, load_hits p (view g world) good c t w spot l))
       (history-here g (pushed g world.history _) (way_first-seen g c w (seen g world)))
       (λ u n. history-other u (pushed_other u g world.history _ n) (way_first-seen g c w (seen u world)))
 
-  pub keeps_store_hit : (c t w j i : ℕ) → world.busy c ≡ None → Holds (world.entries g c w) t
+  pub keeps_store_hit : (c t w j : ℕ) (change : ℕ → ℕ) → world.busy c ≡ None → Holds (world.entries g c w) t
       → is_writable (world.entries g c w).state ≡ true
-      → EveryGroup (step_after g (StoreHits c t w j i) world)
-  keeps_store_hit c t w j i e l number = step g world _ (store_hit (view g world) c t w j i) all
-      (λ p good. (p, store_hits p (view g world) c t w j i good (option_of_group-none g (world.busy c) e) l number))
+      → EveryGroup (step_after g (StoreHits c t w j change) world)
+  keeps_store_hit c t w j change e l number = step g world _ (store_hit (view g world) c t w j change) all
+      (λ p good. (p, store_hits p (view g world) c t w j change good (option_of_group-none g (world.busy c) e) l number))
       (history-here g (pushed g world.history _) (words-here g _ (entries-here g _ (way_first-seen g c w (seen g world)))))
       (λ u n. history-other u (pushed_other u g world.history _ n)
       (words-other u g _ n (entries-other u g _ n (way_first-seen g c w (seen u world)))))
@@ -97,13 +97,13 @@ module _ (g : ℕ) (world : World) (all : EveryGroup world) where
       (history-here g (pushed g world.history _) (seen g world))
       (λ u n. history-other u (pushed_other u g world.history _ n) (seen u world))
 
-  pub keeps_block_load : (c t w j : ℕ) (state : Coh) (ws : ℕ → ℕ) (rest : List (ℕ × ToCache))
+  pub keeps_block_load : (c t w : ℕ) (spot : Spot) (state : Coh) (ws : ℕ → ℕ) (rest : List (ℕ × ToCache))
       → world.command c ≡ (g, Blk t w state ws) ∷ rest
-      → world.busy c ≡ Some (g, record { op = Load t j; way = w })
-      → EveryGroup (step_after g (BlockLoads c t w j state ws rest) world)
-  keeps_block_load c t w j state ws rest e f =
-      step g world _ (take_command (loaded (view g world) c t w state ws j) c (of_group g rest)) all
-      (λ p good. block_loads (view g world) c t w j p good state ws (of_group g rest) (of_group-head g (world.command c) rest _ e)
+      → world.busy c ≡ Some (g, record { op = Load t spot; way = w })
+      → EveryGroup (step_after g (BlockLoads c t w spot state ws rest) world)
+  keeps_block_load c t w spot state ws rest e f =
+      step g world _ (take_command (loaded (view g world) c t w state ws spot) c (of_group g rest)) all
+      (λ p good. block_loads (view g world) c t w p good spot state ws (of_group g rest) (of_group-head g (world.command c) rest _ e)
       (option_of_group-some g (world.busy c) _ f))
       (command-here g c (left g rest)
       (history-here g (pushed g world.history _)
@@ -115,13 +115,13 @@ module _ (g : ℕ) (world : World) (all : EveryGroup world) where
       (busy-other u c (to_none u g _ (world.busy c) n f)
       (words-other u g _ n (entries-other u g _ n (way_first-seen g c w (seen u world))))))))
 
-  pub keeps_block_store : (c t w j number : ℕ) (state : Coh) (ws : ℕ → ℕ) (rest : List (ℕ × ToCache))
+  pub keeps_block_store : (c t w j : ℕ) (change : ℕ → ℕ) (state : Coh) (ws : ℕ → ℕ) (rest : List (ℕ × ToCache))
       → world.command c ≡ (g, Blk t w state ws) ∷ rest
-      → world.busy c ≡ Some (g, record { op = Store t j number; way = w }) → is_writable state ≡ true
-      → EveryGroup (step_after g (BlockStores c t w j number state ws rest) world)
-  keeps_block_store c t w j number state ws rest e f y =
-      step g world _ (take_command (stored (view g world) c t w ws j number) c (of_group g rest)) all
-      (λ p good. block_stores (view g world) c t w j p good number state ws (of_group g rest) (of_group-head g (world.command c) rest _ e)
+      → world.busy c ≡ Some (g, record { op = Store t j change; way = w }) → is_writable state ≡ true
+      → EveryGroup (step_after g (BlockStores c t w j change state ws rest) world)
+  keeps_block_store c t w j change state ws rest e f y =
+      step g world _ (take_command (stored (view g world) c t w ws j change) c (of_group g rest)) all
+      (λ p good. block_stores (view g world) c t w p good j change state ws (of_group g rest) (of_group-head g (world.command c) rest _ e)
       (option_of_group-some g (world.busy c) _ f) y)
       (command-here g c (left g rest)
       (history-here g (pushed g world.history _)
@@ -133,12 +133,12 @@ module _ (g : ℕ) (world : World) (all : EveryGroup world) where
       (busy-other u c (to_none u g _ (world.busy c) n f)
       (words-other u g _ n (entries-other u g _ n (way_first-seen g c w (seen u world))))))))
 
-  pub keeps_wake : (c t w j number : ℕ) (rest : List (ℕ × ToCache)) → world.command c ≡ (g, StWake t w) ∷ rest
-      → world.busy c ≡ Some (g, record { op = Store t j number; way = w })
-      → EveryGroup (step_after g (WakeStores c t w j number rest) world)
-  keeps_wake c t w j number rest e f =
-      step g world _ (take_command (stored (view g world) c t w (world.words g c w) j number) c (of_group g rest)) all
-      (λ p good. wake_stores (view g world) c t w j p good number (of_group g rest) (of_group-head g (world.command c) rest _ e)
+  pub keeps_wake : (c t w j : ℕ) (change : ℕ → ℕ) (rest : List (ℕ × ToCache)) → world.command c ≡ (g, StWake t w) ∷ rest
+      → world.busy c ≡ Some (g, record { op = Store t j change; way = w })
+      → EveryGroup (step_after g (WakeStores c t w j change rest) world)
+  keeps_wake c t w j change rest e f =
+      step g world _ (take_command (stored (view g world) c t w (world.words g c w) j change) c (of_group g rest)) all
+      (λ p good. wake_stores (view g world) c t w p good j change (of_group g rest) (of_group-head g (world.command c) rest _ e)
       (option_of_group-some g (world.busy c) _ f))
       (command-here g c (left g rest)
       (history-here g (pushed g world.history _)
@@ -150,10 +150,13 @@ module _ (g : ℕ) (world : World) (all : EveryGroup world) where
       (busy-other u c (to_none u g _ (world.busy c) n f)
       (words-other u g _ n (entries-other u g _ n (way_first-seen g c w (seen u world))))))))
 
-  pub keeps_word : (c t w j number : ℕ) (rest : List (ℕ × ToCache)) → world.command c ≡ (g, UcBlk t j number) ∷ rest
-      → world.busy c ≡ Some (g, record { op = UcLoad t j; way = w }) → EveryGroup (step_after g (WordComes c t w j number rest) world)
-  keeps_word c t w j number rest e f = step g world _ (finished (view g world) c t (UcLoad t j) number (of_group g rest)) all
-      (λ p good. word_arrives (view g world) c t w j p good number (of_group g rest) (of_group-head g (world.command c) rest _ e)
+  pub keeps_word : (c t w : ℕ) (spot : Spot) (number : ℕ) (rest : List (ℕ × ToCache)) → world.command c
+      ≡ (g, UcBlk t spot.word number) ∷ rest
+      → world.busy c ≡ Some (g, record { op = UcLoad t spot; way = w })
+      → EveryGroup (step_after g (WordComes c t w spot number rest) world)
+  keeps_word c t w spot number rest e f = step g world _ (finished (view g world) c t (UcLoad t spot) (spot.of number)
+      (of_group g rest)) all
+      (λ p good. word_arrives (view g world) c t w p good spot number (of_group g rest) (of_group-head g (world.command c) rest _ e)
       (option_of_group-some g (world.busy c) _ f))
       (command-here g c (left g rest)
       (history-here g (pushed g world.history _)
@@ -162,11 +165,11 @@ module _ (g : ℕ) (world : World) (all : EveryGroup world) where
       (history-other u (pushed_other u g world.history _ n)
       (response-other u c (pushed_other u g (world.response c) _ n) (busy-other u c (to_none u g _ (world.busy c) n f) (seen u world)))))
 
-  pub keeps_store : (c t w j number : ℕ) (rest : List (ℕ × ToCache)) → world.command c ≡ (g, UcDone t j) ∷ rest
-      → world.busy c ≡ Some (g, record { op = UcStore t j number; way = w })
-      → EveryGroup (step_after g (StoreComes c t w j number rest) world)
-  keeps_store c t w j number rest e f = step g world _ (finished (view g world) c t (UcStore t j number) 0 (of_group g rest)) all
-      (λ p good. store_arrives (view g world) c t w j p good number (of_group g rest) (of_group-head g (world.command c) rest _ e)
+  pub keeps_store : (c t w j : ℕ) (change : ℕ → ℕ) (rest : List (ℕ × ToCache)) → world.command c ≡ (g, UcDone t j) ∷ rest
+      → world.busy c ≡ Some (g, record { op = UcStore t j change; way = w })
+      → EveryGroup (step_after g (StoreComes c t w j change rest) world)
+  keeps_store c t w j change rest e f = step g world _ (finished (view g world) c t (UcStore t j change) 0 (of_group g rest)) all
+      (λ p good. store_arrives (view g world) c t w p good j change (of_group g rest) (of_group-head g (world.command c) rest _ e)
       (option_of_group-some g (world.busy c) _ f))
       (command-here g c (left g rest)
       (history-here g (pushed g world.history _)
@@ -179,7 +182,7 @@ module _ (g : ℕ) (world : World) (all : EveryGroup world) where
       → world.busy c ≡ Some (g, record { op = Evict t; way = w })
       → EveryGroup (step_after g (EvictComes c t w rest) world)
   keeps_evict c t w rest e f = step g world _ (finished (view g world) c t (Evict t) 0 (of_group g rest)) all
-      (λ p good. evict_arrives (view g world) c t w 0 p good (of_group g rest) (of_group-head g (world.command c) rest _ e)
+      (λ p good. evict_arrives (view g world) c t w p good (of_group g rest) (of_group-head g (world.command c) rest _ e)
       (option_of_group-some g (world.busy c) _ f))
       (command-here g c (left g rest)
       (history-here g (pushed g world.history _)
@@ -188,13 +191,13 @@ module _ (g : ℕ) (world : World) (all : EveryGroup world) where
       (history-other u (pushed_other u g world.history _ n)
       (response-other u c (pushed_other u g (world.response c) _ n) (busy-other u c (to_none u g _ (world.busy c) n f) (seen u world)))))
 
-  pub keeps_fill_load : (c o t w j : ℕ) (state : Coh) (ws : ℕ → ℕ) (rest : List (ℕ × FillMessage))
+  pub keeps_fill_load : (c o t w : ℕ) (spot : Spot) (state : Coh) (ws : ℕ → ℕ) (rest : List (ℕ × FillMessage))
       → world.fill c o ≡ (g, record { tag = t; way = w; state = state; words = ws }) ∷ rest
-      → world.busy c ≡ Some (g, record { op = Load t j; way = w })
-      → EveryGroup (step_after g (FillLoads c o t w j state ws rest) world)
-  keeps_fill_load c o t w j state ws rest e f =
-      step g world _ (take_fill (loaded (view g world) c t w state ws j) c o (of_group g rest)) all
-      (λ p good. fill_loads (view g world) c t w j p good o state ws (of_group g rest) (of_group-head g (world.fill c o) rest _ e)
+      → world.busy c ≡ Some (g, record { op = Load t spot; way = w })
+      → EveryGroup (step_after g (FillLoads c o t w spot state ws rest) world)
+  keeps_fill_load c o t w spot state ws rest e f =
+      step g world _ (take_fill (loaded (view g world) c t w state ws spot) c o (of_group g rest)) all
+      (λ p good. fill_loads (view g world) c t w p good spot o state ws (of_group g rest) (of_group-head g (world.fill c o) rest _ e)
       (option_of_group-some g (world.busy c) _ f))
       (fill-here g c o (left g rest)
       (history-here g (pushed g world.history _)
@@ -206,13 +209,13 @@ module _ (g : ℕ) (world : World) (all : EveryGroup world) where
       (busy-other u c (to_none u g _ (world.busy c) n f)
       (words-other u g _ n (entries-other u g _ n (way_first-seen g c w (seen u world))))))))
 
-  pub keeps_fill_store : (c o t w j number : ℕ) (state : Coh) (ws : ℕ → ℕ) (rest : List (ℕ × FillMessage))
+  pub keeps_fill_store : (c o t w j : ℕ) (change : ℕ → ℕ) (state : Coh) (ws : ℕ → ℕ) (rest : List (ℕ × FillMessage))
       → world.fill c o ≡ (g, record { tag = t; way = w; state = state; words = ws }) ∷ rest
-      → world.busy c ≡ Some (g, record { op = Store t j number; way = w })
-      → is_writable state ≡ true → EveryGroup (step_after g (FillStores c o t w j number state ws rest) world)
-  keeps_fill_store c o t w j number state ws rest e f y =
-      step g world _ (take_fill (stored (view g world) c t w ws j number) c o (of_group g rest)) all
-      (λ p good. fill_stores (view g world) c t w j p good number o state ws (of_group g rest) (of_group-head g (world.fill c o) rest _ e)
+      → world.busy c ≡ Some (g, record { op = Store t j change; way = w })
+      → is_writable state ≡ true → EveryGroup (step_after g (FillStores c o t w j change state ws rest) world)
+  keeps_fill_store c o t w j change state ws rest e f y =
+      step g world _ (take_fill (stored (view g world) c t w ws j change) c o (of_group g rest)) all
+      (λ p good. fill_stores (view g world) c t w p good j change o state ws (of_group g rest) (of_group-head g (world.fill c o) rest _ e)
       (option_of_group-some g (world.busy c) _ f) y)
       (fill-here g c o (left g rest)
       (history-here g (pushed g world.history _)
@@ -244,14 +247,15 @@ module _ (g : ℕ) (world : World) (all : EveryGroup world) where
       (memory-here g _ (memout-here g (left g rest) (seen g world)))
       (λ u n. memory-other u g _ n (memout-other u (left_other u g world.memout rest (Write t ws) n e) (seen u world)))
 
-  pub keeps_write_word : (t j number : ℕ) (rest : List (ℕ × ToMemory)) → world.memout ≡ (g, WriteWord t j number) ∷ rest
-      → EveryGroup (step_after g (MemoryWritesWord t j number rest) world)
-  keeps_write_word t j number rest e =
-      step g world _ (record (view g world) { memout = of_group g rest; memory = write_word (world.memory g) t j number }) all
+  pub keeps_write_word : (t j : ℕ) (change : ℕ → ℕ) (rest : List (ℕ × ToMemory)) → world.memout ≡ (g, WriteWord t j change)
+      ∷ rest
+      → EveryGroup (step_after g (MemoryWritesWord t j change rest) world)
+  keeps_write_word t j change rest e =
+      step g world _ (record (view g world) { memout = of_group g rest; memory = write_word (world.memory g) t j change }) all
       (λ p good. (
         p,
-        write_word_comes p (view g world) good t j number (of_group g rest)
-            (of_group-head g world.memout rest (WriteWord t j number) e),
+        write_word_comes p (view g world) good t j change (of_group g rest)
+            (of_group-head g world.memout rest (WriteWord t j change) e),
       ))
       (memory-here g _ (memout-here g (left g rest) (seen g world)))
-      (λ u n. memory-other u g _ n (memout-other u (left_other u g world.memout rest (WriteWord t j number) n e) (seen u world)))
+      (λ u n. memory-other u g _ n (memout-other u (left_other u g world.memout rest (WriteWord t j change) n e) (seen u world)))

@@ -208,17 +208,17 @@ module _ (group : ℕ) (world : World) (all : EveryGroup world) (x : Transaction
       (λ u n. transaction-other u (from_some u group _ x world.transaction n is)
       (memout-other u (pushed_other u group world.memout _ n) (seen u world)))
 
-  pub keeps_word_sent : (t number count : ℕ) → x.granted ≡ false → x.write_back ≡ Idle → x.waiting ≡ []
-      → x.request ≡ UcWr t number count
+  pub keeps_word_sent : (t number : ℕ) (change : ℕ → ℕ) → x.granted ≡ false → x.write_back ≡ Idle → x.waiting ≡ []
+      → x.request ≡ UcWr t number change
       → x.written ≡ false
       → x.reading ≡ NotRead → ((c w : ℕ) → Holds (world.directory group c w) t → ⊥)
-      → EveryGroup (action_after group (Action.WritesWord t number count x) world)
-  keeps_word_sent t number count f i j a b debt e = step group world _
+      → EveryGroup (action_after group (Action.WritesWord t number change x) world)
+  keeps_word_sent t number change f i j a b debt e = step group world _
       (record (view group world) {
-        memout = of_group group world.memout ++ WriteWord t number count ∷ [];
+        memout = of_group group world.memout ++ WriteWord t number change ∷ [];
         transaction = Some (record x { written = true });
       }) all
-      (λ p good. writes_word p (view group world) x good now f i j t number count a b debt e)
+      (λ p good. writes_word p (view group world) x good now f i j t number change a b debt e)
       (transaction-here group (some_is group _) (memout-here group (pushed group world.memout _) (seen group world)))
       (λ u n. transaction-other u (from_some u group _ x world.transaction n is)
       (memout-other u (pushed_other u group world.memout _ n) (seen u world)))
@@ -317,12 +317,12 @@ module _ (group : ℕ) (world : World) (all : EveryGroup world) (x : Transaction
   keeps_answer_word t number ws f i j a b =
       keeps_answer (UcBlk t number (ws number)) (λ p good. answers_word p (view group world) x good now f i j t number ws a b)
 
-  pub keeps_answer_store : (t number n : ℕ) → x.granted ≡ false → x.write_back ≡ Idle → x.waiting ≡ []
-      → x.request ≡ UcWr t number n
+  pub keeps_answer_store : (t number : ℕ) (change : ℕ → ℕ) → x.granted ≡ false → x.write_back ≡ Idle → x.waiting ≡ []
+      → x.request ≡ UcWr t number change
       → x.written ≡ true
-      → is_asked x.reading ≡ false → EveryGroup (action_after group (Action.AnswersStore t number n x) world)
-  keeps_answer_store t number n f i j a b debt =
-      keeps_answer (UcDone t number) (λ p good. answers_store p (view group world) x good now f i j t number n a b debt)
+      → is_asked x.reading ≡ false → EveryGroup (action_after group (Action.AnswersStore t number change x) world)
+  keeps_answer_store t number change f i j a b debt =
+      keeps_answer (UcDone t number) (λ p good. answers_store p (view group world) x good now f i j t number change a b debt)
 
   pub keeps_answer_evict : (t w : ℕ) → x.granted ≡ false → x.write_back ≡ Idle → x.waiting ≡ []
       → x.request ≡ EvictRequest t w

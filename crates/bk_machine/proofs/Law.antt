@@ -2,7 +2,6 @@
 use Rattle.std.proofs.Common.{◌++◌, ◌∙◌, ap, ◌≡◌, ℕ, ◌+◌, ◌<◌, ◌≤◌, ◌≢◌, Bool, true, false, not, refl, arith, List, [], ◌∷◌, sym, subst}
 use Rattle.std.specs.Prelude.{Option, Some, None, unwrap_or, if◌then◌else◌, ◌==◌}
 use Rattle.std.proofs.lemmas.Bool.Decides.{nat_tests}
-use Rattle.bk_base.specs.Counting.{or_else}
 use Rattle.bk_base.specs.Places.{Shape}
 use Rattle.bk_base.specs.Tables.{put}
 use Rattle.bk_base.specs.declared.coh.Coh.TheVariants.{I}
@@ -16,7 +15,7 @@ use Rattle.bk_machine.specs.Actions.{Action, action_after, Takes, Settles, Colle
 use Rattle.bk_machine.proofs.Allowed.{Allowed, StepFits}
 use Rattle.bk_machine.specs.Steps.{MachineStep, step_after, LoadHits, StoreHits, Asks, EvictIdles, InvComes, FlushComes, TransferComes, BlockLoads, BlockStores, WakeStores, WordComes, StoreComes, EvictComes, FillLoads, FillStores, MemoryReads, MemoryWrites, MemoryWritesWord}
 use Rattle.bk_machine.proofs.View.{of_group-head, of_group-rest, put-here, put-other}
-use Rattle.bk_machine.specs.Claims.{Sole, Latest, PendingAgrees, stored_in, stored_by, latest_store, latest_value}
+use Rattle.bk_machine.specs.Claims.{Sole, Latest, PendingAgrees, changed_in, changed_by, value_after, latest_value}
 use Rattle.bk_machine.specs.Invariant.{EveryGroup}
 use Rattle.bk_machine.proofs.KeepsCaches.{keeps_inv, keeps_flush, keeps_transfer, keeps_load_hit, keeps_store_hit, keeps_ask, keeps_evict_idle, keeps_block_load, keeps_block_store, keeps_wake, keeps_word, keeps_store, keeps_evict, keeps_fill_load, keeps_fill_store, keeps_read, keeps_write, keeps_write_word}
 use Rattle.bk_machine.proofs.KeepsEngine.{keeps_take, keeps_settle, keeps_ack, keeps_back, keeps_got, keeps_invalidate, keeps_flush_sent, keeps_write_back, keeps_read_sent, keeps_word_sent, keeps_grant_block, keeps_grant_wake, keeps_grant_transfer, keeps_answer_word, keeps_answer_store, keeps_answer_evict, keeps_pay_own, keeps_pay_owner, keeps_finish}
@@ -167,30 +166,26 @@ answer-at : (v : ℕ → ℕ → ℕ → ℕ) (xs : List (ℕ × Completed)) (d 
 answer-at v [] d ys a = a.0
 answer-at v (x ∷ xs) d ys a = answer-at (put v x.0 (after_op x.1.op (v x.0))) xs d ys a.1
 
-after-store : (op : Op) (v : ℕ → ℕ → ℕ) (t j : ℕ) → after_op op v t j ≡ unwrap_or (stored_in op t j) (v t j)
+after-store : (op : Op) (v : ℕ → ℕ → ℕ) (t j : ℕ) → after_op op v t j ≡ changed_in op t j (v t j)
 after-store op v t j = grind (arith, nat_tests)
 
 tables-are : (v : ℕ → ℕ → ℕ → ℕ) (xs : List (ℕ × Completed)) (g t j : ℕ)
-    → tables v xs g t j ≡ unwrap_or (latest_store xs g t j) (v g t j)
+    → tables v xs g t j ≡ value_after (v g t j) xs g t j
 unfolding put
 tables-are v [] s t k = refl
-tables-are v (d ∷ ds) s t k = tables-are (put v d.0 (after_op d.1.op (v d.0))) ds s t k ∙ last (latest_store ds s t k)
+tables-are v (d ∷ ds) s t k =
+    tables-are (put v d.0 (after_op d.1.op (v d.0))) ds s t k ∙ ap (λ (i : ℕ). value_after i ds s t k) one
   where
-    one : put v d.0 (after_op d.1.op (v d.0)) s t k ≡ unwrap_or (stored_by d s t k) (v s t k)
+    one : put v d.0 (after_op d.1.op (v d.0)) s t k ≡ changed_by d s t k (v s t k)
     one = decide (s == d.0) refl
       where
         is : (s == d.0) ≡ true → d.0 ≡ s
         is e = grind (arith, nat_tests)
 
         decide : (b : Bool) → (s == d.0) ≡ b → (if b then after_op d.1.op (v d.0) else v s) t k
-            ≡ unwrap_or (if b then stored_in d.1.op t k else None) (v s t k)
-        decide true e = after-store d.1.op (v d.0) t k ∙ ap (λ (i : ℕ). unwrap_or (stored_in d.1.op t k) (v i t k)) (is e)
+            ≡ (if b then changed_in d.1.op t k (v s t k) else v s t k)
+        decide true e = after-store d.1.op (v d.0) t k ∙ ap (λ (i : ℕ). changed_in d.1.op t k (v i t k)) (is e)
         decide false e = refl
-
-    last : (o : Option ℕ) → unwrap_or o (put v d.0 (after_op d.1.op (v d.0)) s t k)
-        ≡ unwrap_or (or_else o (stored_by d s t k)) (v s t k)
-    last (Some n) = refl
-    last None = one
 
 value-is : (xs : List (ℕ × Completed)) (g t j : ℕ) → tables (λ g t j. 0) xs g t j ≡ latest_value xs g t j
 value-is xs g t j = tables-are (λ g t j. 0) xs g t j

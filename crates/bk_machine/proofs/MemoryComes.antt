@@ -54,9 +54,9 @@ module _ (p : Phase) (part : GroupState) (good : Good p part) where
 
   -- As for a Write: effective memory and what the Reads behind find have counted the word as written already, and nothing else of the
   -- group changes.
-  pub write_word_comes : (u j n : ℕ) (rest : List ToMemory) → part.memout ≡ WriteWord u j n ∷ rest
-      → Good p (record part { memout = rest; memory = write_word part.memory u j n })
-  write_word_comes u j n rest e =
-      let c = channels-with (WriteWord u j n ∷ rest) e in
-      still-good (write_word part.memory u j n) rest part.memin part.history good (values-with (WriteWord u j n ∷ rest) e)
+  pub write_word_comes : (u j : ℕ) (change : ℕ → ℕ) (rest : List ToMemory) → part.memout ≡ WriteWord u j change ∷ rest
+      → Good p (record part { memout = rest; memory = write_word part.memory u j change })
+  write_word_comes u j change rest e =
+      let c = channels-with (WriteWord u j change ∷ rest) e in
+      still-good (write_word part.memory u j change) rest part.memin part.history good (values-with (WriteWord u j change ∷ rest) e)
       (record { count = c.count; to = c.to; back = c.back }) good.answers

@@ -62,20 +62,20 @@ module _ (r : ℕ) (b : InProgress) (fl : Flush) (inv : ℕ → Ack) (d h : ℕ 
 -- the request's operation
 rd-placed : (op : Op) (w t v : ℕ) (h : ℕ → Entry) → request_of op w ≡ Rd t v → WaitingCopies op w h → (i : ℕ)
     → Holds (h i) t → ⊥
-rd-placed (Load u k) w t v h e p i l = p i (subst (λ (j : ℕ). Holds (h i) j) (sym (same e)) l)
+rd-placed (Load u spot) w t v h e p i l = p i (subst (λ (j : ℕ). Holds (h i) j) (sym (same e)) l)
   where
     same : Rd u w ≡ Rd t v → u ≡ t
     same e = cc
-rd-placed (Store u k n) w t v h e p i l = absurd (cc e)
-rd-placed (UcLoad u k) w t v h e p i l = absurd (cc e)
-rd-placed (UcStore u k n) w t v h e p i l = absurd (cc e)
+rd-placed (Store u k change) w t v h e p i l = absurd (cc e)
+rd-placed (UcLoad u spot) w t v h e p i l = absurd (cc e)
+rd-placed (UcStore u k change) w t v h e p i l = absurd (cc e)
 rd-placed (Evict u) w t v h e p i l = absurd (cc e)
 
 -- Only a Store makes a Wr, and it names the one way at which the Store may have a copy.
 wr-placed : (op : Op) (w t v : ℕ) (h : ℕ → Entry) → request_of op w ≡ Wr t v → WaitingCopies op w h → (i : ℕ)
     → Holds (h i) t
     → (i ≡ v) × (is_writable (h i).state ≡ false)
-wr-placed (Store u k n) w t v h e p i l = (
+wr-placed (Store u k change) w t v h e p i l = (
   (p i (subst (λ (j : ℕ). Holds (h i) j) (sym (tag e)) l)).0 ∙ way e,
   (p i (subst (λ (j : ℕ). Holds (h i) j) (sym (tag e)) l)).1,
 )
@@ -85,9 +85,9 @@ wr-placed (Store u k n) w t v h e p i l = (
 
     way : Wr u w ≡ Wr t v → w ≡ v
     way e = cc
-wr-placed (Load u k) w t v h e p i l = absurd (cc e)
-wr-placed (UcLoad u k) w t v h e p i l = absurd (cc e)
-wr-placed (UcStore u k n) w t v h e p i l = absurd (cc e)
+wr-placed (Load u spot) w t v h e p i l = absurd (cc e)
+wr-placed (UcLoad u spot) w t v h e p i l = absurd (cc e)
+wr-placed (UcStore u k change) w t v h e p i l = absurd (cc e)
 wr-placed (Evict u) w t v h e p i l = absurd (cc e)
 
 module _ (k : Shape) (world : World) (inv : Invariant k world) (group : ℕ) (x : Transaction) (is : world.transaction

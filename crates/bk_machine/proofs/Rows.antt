@@ -1,5 +1,5 @@
 -- The step that an event of a cache or the memory is fits: what its row in the tables says holds.
-use Rattle.std.proofs.Common.{◌≡◌, ℕ, ◌<◌, Bool, true, false, ◌&&◌, refl, arith, List, [], ◌∷◌, ◌∙◌, subst, ap, inl, inr}
+use Rattle.std.proofs.Common.{◌≡◌, ℕ, ◌<◌, Bool, true, false, ◌&&◌, refl, arith, List, [], ◌∷◌, ◌∙◌, subst, ap, sym, inl, inr}
 use Rattle.std.specs.Prelude.{Option, Some, None, if◌then◌else◌, ◌==◌, nat_lt}
 use Rattle.std.proofs.lemmas.Bool.Decides.{nat_tests}
 use Rattle.bk_base.specs.Places.{Shape}
@@ -79,16 +79,16 @@ module _ (shape : Shape) (world : World) (k : Ranges shape world) where
 
   issue_fits : (g c way : ℕ) (op : Op) → world.busy c ≡ None → WayInRange shape c way
       → IfFits shape world (issue_row shape.ways world c g way op)
-  issue_fits g c way (Load t j) event l =
+  issue_fits g c way (Load t spot) event l =
       if-way shape world (found_way shape.ways (world.entries g c) t) _ _ (λ w f. (event, (found shape.ways (world.entries g c) t w f).1))
       (λ f. (event, missing g c t f, l))
-  issue_fits g c way (Store t j n) event l = if-way shape world (found_way shape.ways (world.entries g c) t) _ _
+  issue_fits g c way (Store t j change) event l = if-way shape world (found_way shape.ways (world.entries g c) t) _ _
       (λ w f. if-cond shape world (is_writable (world.entries g c w).state) _ _
       (λ q. (event, (found shape.ways (world.entries g c) t w f).1, q))
       (λ q. (event, inl ((found shape.ways (world.entries g c) t w f).1, q), found-range g c t w f)))
       (λ f. (event, inr (missing g c t f), l))
-  issue_fits g c way (UcLoad t j) event l = (event, refl, first_way c way l)
-  issue_fits g c way (UcStore t j n) event l = (event, refl, first_way c way l)
+  issue_fits g c way (UcLoad t spot) event l = (event, refl, first_way c way l)
+  issue_fits g c way (UcStore t j change) event l = (event, refl, first_way c way l)
   issue_fits g c way (Evict t) event l =
       if-way shape world (found_way shape.ways (world.entries g c) t) _ _
       (λ w f. (event, (found shape.ways (world.entries g c) t w f).1, found-range g c t w f)) (λ f. (event, missing g c t f))
@@ -107,68 +107,67 @@ module _ (shape : Shape) (world : World) (k : Ranges shape world) where
   block_fits : (g c t w : ℕ) (state : Coh) (ws : ℕ → ℕ) (rest : List (ℕ × ToCache)) (op : Op)
       → world.command c ≡ (g, Blk t w state ws) ∷ rest
       → world.busy c ≡ Some (g, record { op = op; way = w }) → IfFits shape world (block_row g c t w state ws rest op)
-  block_fits g c t w state ws rest (Load u j) event f =
+  block_fits g c t w state ws rest (Load u spot) event f =
       if-when shape world (u == t) g _
-      (λ q. (event, subst (λ (i : ℕ). world.busy c ≡ Some (g, record { op = Load i j; way = w })) (same u t q) f))
-  block_fits g c t w state ws rest (Store u j n) event f = if-when shape world (u == t && is_writable state) g _
+      (λ q. (event, subst (λ (i : ℕ). world.busy c ≡ Some (g, record { op = Load i spot; way = w })) (same u t q) f))
+  block_fits g c t w state ws rest (Store u j change) event f = if-when shape world (u == t && is_writable state) g _
       (λ q. (
         event,
-        subst (λ (i : ℕ). world.busy c ≡ Some (g, record { op = Store i j n; way = w })) (same u t (left_is _ _ q)) f,
+        subst (λ (i : ℕ). world.busy c ≡ Some (g, record { op = Store i j change; way = w })) (same u t (left_is _ _ q)) f,
         right_is (u == t) _ q,
       ))
-  block_fits g c t w state ws rest (UcLoad u j) event f = tt
-  block_fits g c t w state ws rest (UcStore u j n) event f = tt
+  block_fits g c t w state ws rest (UcLoad u spot) event f = tt
+  block_fits g c t w state ws rest (UcStore u j change) event f = tt
   block_fits g c t w state ws rest (Evict u) event f = tt
 
   wake_fits : (g c t w : ℕ) (rest : List (ℕ × ToCache)) (op : Op) → world.command c ≡ (g, StWake t w) ∷ rest
       → world.busy c ≡ Some (g, record { op = op; way = w })
       → IfFits shape world (wake_row world g c t w rest op)
-  wake_fits g c t w rest (Load u j) event f = tt
-  wake_fits g c t w rest (Store u j n) event f = if-when shape world (u == t && holds (world.entries g c w) t) g _
+  wake_fits g c t w rest (Load u spot) event f = tt
+  wake_fits g c t w rest (Store u j change) event f = if-when shape world (u == t && holds (world.entries g c w) t) g _
       (λ q. (
         event,
-        subst (λ (i : ℕ). world.busy c ≡ Some (g, record { op = Store i j n; way = w })) (same u t (left_is _ _ q)) f,
+        subst (λ (i : ℕ). world.busy c ≡ Some (g, record { op = Store i j change; way = w })) (same u t (left_is _ _ q)) f,
         is-holds _ t (right_is (u == t) _ q),
       ))
-  wake_fits g c t w rest (UcLoad u j) event f = tt
-  wake_fits g c t w rest (UcStore u j n) event f = tt
+  wake_fits g c t w rest (UcLoad u spot) event f = tt
+  wake_fits g c t w rest (UcStore u j change) event f = tt
   wake_fits g c t w rest (Evict u) event f = tt
 
   word_fits : (g c t w j n : ℕ) (rest : List (ℕ × ToCache)) (op : Op) → world.command c ≡ (g, UcBlk t j n) ∷ rest
       → world.busy c ≡ Some (g, record { op = op; way = w })
       → IfFits shape world (word_row g c t w j n rest op)
-  word_fits g c t w j n rest (Load u i) event f = tt
-  word_fits g c t w j n rest (Store u i m) event f = tt
-  word_fits g c t w j n rest (UcLoad u i) event f = if-when shape world (u == t && i == j) g _
+  word_fits g c t w j n rest (Load u spot) event f = tt
+  word_fits g c t w j n rest (Store u i change) event f = tt
+  word_fits g c t w j n rest (UcLoad u spot) event f = if-when shape world (u == t && spot.word == j) g _
       (λ q. (
-        event,
-        subst (λ (y : ℕ). world.busy c ≡ Some (g, record { op = UcLoad t y; way = w })) (same i j (right_is (u == t) _ q))
-            (subst (λ (y : ℕ). world.busy c ≡ Some (g, record { op = UcLoad y i; way = w })) (same u t (left_is _ _ q)) f),
+        subst (λ (y : ℕ). world.command c ≡ (g, UcBlk t y n) ∷ rest) (sym (same spot.word j (right_is (u == t) _ q))) event,
+        subst (λ (y : ℕ). world.busy c ≡ Some (g, record { op = UcLoad y spot; way = w })) (same u t (left_is _ _ q)) f,
       ))
-  word_fits g c t w j n rest (UcStore u i m) event f = tt
+  word_fits g c t w j n rest (UcStore u i change) event f = tt
   word_fits g c t w j n rest (Evict u) event f = tt
 
   stored_fits : (g c t w j : ℕ) (rest : List (ℕ × ToCache)) (op : Op) → world.command c ≡ (g, UcDone t j) ∷ rest
       → world.busy c ≡ Some (g, record { op = op; way = w })
       → IfFits shape world (stored_row g c t w j rest op)
-  stored_fits g c t w j rest (Load u i) event f = tt
-  stored_fits g c t w j rest (Store u i m) event f = tt
-  stored_fits g c t w j rest (UcLoad u i) event f = tt
-  stored_fits g c t w j rest (UcStore u i m) event f = if-when shape world (u == t && i == j) g _
+  stored_fits g c t w j rest (Load u spot) event f = tt
+  stored_fits g c t w j rest (Store u i change) event f = tt
+  stored_fits g c t w j rest (UcLoad u spot) event f = tt
+  stored_fits g c t w j rest (UcStore u i change) event f = if-when shape world (u == t && i == j) g _
       (λ q. (
         event,
-        subst (λ (y : ℕ). world.busy c ≡ Some (g, record { op = UcStore t y m; way = w })) (same i j (right_is (u == t) _ q))
-            (subst (λ (y : ℕ). world.busy c ≡ Some (g, record { op = UcStore y i m; way = w })) (same u t (left_is _ _ q)) f),
+        subst (λ (y : ℕ). world.busy c ≡ Some (g, record { op = UcStore t y change; way = w })) (same i j (right_is (u == t) _ q))
+            (subst (λ (y : ℕ). world.busy c ≡ Some (g, record { op = UcStore y i change; way = w })) (same u t (left_is _ _ q)) f),
       ))
   stored_fits g c t w j rest (Evict u) event f = tt
 
   evicted_fits : (g c t w : ℕ) (rest : List (ℕ × ToCache)) (op : Op) → world.command c ≡ (g, EvictDone t) ∷ rest
       → world.busy c ≡ Some (g, record { op = op; way = w })
       → IfFits shape world (evicted_row g c t w rest op)
-  evicted_fits g c t w rest (Load u i) event f = tt
-  evicted_fits g c t w rest (Store u i m) event f = tt
-  evicted_fits g c t w rest (UcLoad u i) event f = tt
-  evicted_fits g c t w rest (UcStore u i m) event f = tt
+  evicted_fits g c t w rest (Load u spot) event f = tt
+  evicted_fits g c t w rest (Store u i change) event f = tt
+  evicted_fits g c t w rest (UcLoad u spot) event f = tt
+  evicted_fits g c t w rest (UcStore u i change) event f = tt
   evicted_fits g c t w rest (Evict u) event f =
       if-when shape world (u == t) g _
       (λ q. (event, subst (λ (y : ℕ). world.busy c ≡ Some (g, record { op = Evict y; way = w })) (same u t q) f))
@@ -204,17 +203,17 @@ module _ (shape : Shape) (world : World) (k : Ranges shape world) where
 
   fill_fits : (g c o : ℕ) (m : FillMessage) (rest : List (ℕ × FillMessage)) (op : Op) → world.fill c o ≡ (g, m) ∷ rest
       → world.busy c ≡ Some (g, record { op = op; way = m.way }) → IfFits shape world (fill_row g c o m rest op)
-  fill_fits g c o m rest (Load u j) event f =
+  fill_fits g c o m rest (Load u spot) event f =
       if-when shape world (u == m.tag) g _
-      (λ q. (event, subst (λ (i : ℕ). world.busy c ≡ Some (g, record { op = Load i j; way = m.way })) (same u m.tag q) f))
-  fill_fits g c o m rest (Store u j n) event f = if-when shape world (u == m.tag && is_writable m.state) g _
+      (λ q. (event, subst (λ (i : ℕ). world.busy c ≡ Some (g, record { op = Load i spot; way = m.way })) (same u m.tag q) f))
+  fill_fits g c o m rest (Store u j change) event f = if-when shape world (u == m.tag && is_writable m.state) g _
       (λ q. (
         event,
-        subst (λ (i : ℕ). world.busy c ≡ Some (g, record { op = Store i j n; way = m.way })) (same u m.tag (left_is _ _ q)) f,
+        subst (λ (i : ℕ). world.busy c ≡ Some (g, record { op = Store i j change; way = m.way })) (same u m.tag (left_is _ _ q)) f,
         right_is (u == m.tag) _ q,
       ))
-  fill_fits g c o m rest (UcLoad u j) event f = tt
-  fill_fits g c o m rest (UcStore u j n) event f = tt
+  fill_fits g c o m rest (UcLoad u spot) event f = tt
+  fill_fits g c o m rest (UcStore u j change) event f = tt
   fill_fits g c o m rest (Evict u) event f = tt
 
   filled_fits : (c o : ℕ) (ms : List (ℕ × FillMessage)) → world.fill c o ≡ ms → IfFits shape world (step_of_fill world c o ms)
@@ -228,7 +227,7 @@ module _ (shape : Shape) (world : World) (k : Ranges shape world) where
       → IfFits shape world (Some (memory_row g rest m))
   memory_fits g rest (Read t) event = event
   memory_fits g rest (Write t ws) event = event
-  memory_fits g rest (WriteWord t j n) event = event
+  memory_fits g rest (WriteWord t j change) event = event
 
   remembered_fits : (ms : List (ℕ × ToMemory)) → world.memout ≡ ms → IfFits shape world (step_of_memory ms)
   remembered_fits [] event = tt

@@ -22,10 +22,10 @@ no_inv InvSent f = absurd (f (λ e. absurd (cc e)))
 no_inv InvAcked f = absurd (f (λ e. absurd (cc e)))
 
 pub request-tag : (op : Op) (w : ℕ) → request_tag (request_of op w) ≡ op_tag op
-request-tag (Load t k) w = refl
-request-tag (Store t k v) w = refl
-request-tag (UcLoad t k) w = refl
-request-tag (UcStore t k v) w = refl
+request-tag (Load t spot) w = refl
+request-tag (Store t k change) w = refl
+request-tag (UcLoad t spot) w = refl
+request-tag (UcStore t k change) w = refl
 request-tag (Evict t) w = refl
 
 abbrev pub inv_to : List ℕ → ℕ → (ℕ → List ToCache) → ℕ → List ToCache

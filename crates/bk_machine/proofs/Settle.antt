@@ -60,11 +60,11 @@ channels-granted transaction m v words ms bs e c =
 
 pub WaitingCopies-same : (op : Op) (w : ℕ) (h k : ℕ → Entry) → ((v : ℕ) → h v ≡ k v) → WaitingCopies op w h
     → WaitingCopies op w k
-WaitingCopies-same (Load t j) w h k f p = λ v. subst (λ (entry : Entry). Holds entry t → ⊥) (f v) (p v)
-WaitingCopies-same (Store t j x) w h k f p =
+WaitingCopies-same (Load t spot) w h k f p = λ v. subst (λ (entry : Entry). Holds entry t → ⊥) (f v) (p v)
+WaitingCopies-same (Store t j change) w h k f p =
     λ v. subst (λ (entry : Entry). Holds entry t → (v ≡ w) × (is_writable entry.state ≡ false)) (f v) (p v)
-WaitingCopies-same (UcLoad t j) w h k f p = tt
-WaitingCopies-same (UcStore t j x) w h k f p = tt
+WaitingCopies-same (UcLoad t spot) w h k f p = tt
+WaitingCopies-same (UcStore t j change) w h k f p = tt
 WaitingCopies-same (Evict t) w h k f p = tt
 
 -- nothing is on its way: the caches' facts are the directory's

@@ -1,10 +1,10 @@
 -- The answer of an uncached access or of an eviction comes.
-use Rattle.std.proofs.Common.{◌≡◌, ℕ, ◌≢◌, false, refl, arith, List, [], ◌∷◌, ◌++◌, ◌∙◌, subst}
+use Rattle.std.proofs.Common.{◌≡◌, ℕ, ◌≢◌, false, refl, arith, List, [], ◌∷◌, ◌++◌, ◌∙◌, subst, ap}
 use Rattle.std.specs.Prelude.{Some, None}
 use Rattle.std.proofs.lemmas.Bool.Decides.{nat_tests}
 use Rattle.bk_base.specs.Tables.{put}
 use Rattle.bk_machine.specs.Entries.{Entry, Holds}
-use Rattle.bk_machine.specs.Messages.{Op, UcLoad, UcStore, Evict, ToCache, CohAck}
+use Rattle.bk_machine.specs.Messages.{Spot, Op, UcLoad, UcStore, Evict, ToCache, CohAck}
 use Rattle.bk_machine.specs.Transactions.{InProgress, paid_directory}
 use Rattle.bk_machine.specs.Phases.{Flight, ByWord, ByDone, Flying, Settling, commands_of, responses_of, requests_of, flight_command, flight_fill, flight_effect}
 use Rattle.bk_machine.specs.World.{GroupState}
@@ -78,11 +78,11 @@ word_only c w op n i d = grind (arith, nat_tests)
 done_only : (c w : ℕ) (op : Op) (i : ℕ) → i ≢ c → flight_command ByDone c (record { op = op; way = w }) i ≡ []
 done_only c w op i d = grind (arith, nat_tests)
 
-pub word_comes : (part : GroupState) (c t w number n : ℕ) (rest : List ToCache)
-    → Good (Flying c (record { op = UcLoad t number; way = w }) (ByWord n)) part → rest ≡ []
-    → Good (Settling c t) (finished part c t (UcLoad t number) n rest)
-word_comes part c t w number n rest good last = finished-good part c w (UcLoad t number) (ByWord n) rest good last t n
-    (word_only c w (UcLoad t number) n) (λ i o. refl) (λ i v h. refl) good.values.flying.0 (record {
+pub word_comes : (part : GroupState) (c t w : ℕ) (spot : Spot) (n : ℕ) (rest : List ToCache)
+    → Good (Flying c (record { op = UcLoad t spot; way = w }) (ByWord n)) part → rest ≡ []
+    → Good (Settling c t) (finished part c t (UcLoad t spot) (spot.of n) rest)
+word_comes part c t w spot n rest good last = finished-good part c w (UcLoad t spot) (ByWord n) rest good last t (spot.of n)
+    (word_only c w (UcLoad t spot) n) (λ i o. refl) (λ i v h. refl) (ap spot.of good.values.flying.0) (record {
       copies = good.values.copies;
       memory = λ u j home. good.values.memory u j (record { clean = home.clean; not_flying = refl; not_kept = home.not_kept });
       flying = tt;
@@ -100,24 +100,25 @@ evict_comes part c t w rest good last =
       ungranted = OpenValues-granted part.transaction _ _ _ good.transaction;
     })
 
-module _ (part : GroupState) (c t w number n : ℕ) (good : Good (Flying c (record { op = UcStore t number n; way = w }) ByDone) part) where
+module _ (part : GroupState) (c t w number : ℕ) (change : ℕ → ℕ)
+    (good : Good (Flying c (record { op = UcStore t number change; way = w }) ByDone) part) where
   store-words : (u i v j : ℕ) → Holds (part.entries i v) u → part.words i v j
-      ≡ after_op (UcStore t number n) (latest part.history) u j
+      ≡ after_op (UcStore t number change) (latest part.history) u j
   store-words u i v j l = grind (arith, nat_tests, good.values.copies u i v j, good.values.flying.1 i v)
 
   store-memory : (u j : ℕ) → AtHome (Settling c t) part.transaction part.entries u j
-      → (stores_at (UcStore t number n) u j ≡ false → effective part.memory part.memout u j ≡ latest part.history u j)
-      → effective part.memory part.memout u j ≡ after_op (UcStore t number n) (latest part.history) u j
+      → (stores_at (UcStore t number change) u j ≡ false → effective part.memory part.memout u j ≡ latest part.history u j)
+      → effective part.memory part.memout u j ≡ after_op (UcStore t number change) (latest part.history) u j
   store-memory u j home e = grind (arith, nat_tests, good.values.flying.0)
 
-pub store_comes : (part : GroupState) (c t w number n : ℕ) (rest : List ToCache)
-    → Good (Flying c (record { op = UcStore t number n; way = w }) ByDone) part → rest ≡ []
-    → Good (Settling c t) (finished part c t (UcStore t number n) 0 rest)
-store_comes part c t w number n rest good last = finished-good part c w (UcStore t number n) ByDone rest good last t 0
-    (done_only c w (UcStore t number n)) (λ i o. refl) (λ i v h. refl) refl (record {
-      copies = store-words part c t w number n good;
+pub store_comes : (part : GroupState) (c t w number : ℕ) (change : ℕ → ℕ) (rest : List ToCache)
+    → Good (Flying c (record { op = UcStore t number change; way = w }) ByDone) part → rest ≡ []
+    → Good (Settling c t) (finished part c t (UcStore t number change) 0 rest)
+store_comes part c t w number change rest good last = finished-good part c w (UcStore t number change) ByDone rest good last t 0
+    (done_only c w (UcStore t number change)) (λ i o. refl) (λ i v h. refl) refl (record {
+      copies = store-words part c t w number change good;
       memory =
-          λ u j home. store-memory part c t w number n good u j home
+          λ u j home. store-memory part c t w number change good u j home
           (λ e. good.values.memory u j (record { clean = home.clean; not_flying = e; not_kept = home.not_kept }));
       flying = tt;
       ungranted = OpenValues-granted part.transaction _ _ _ good.transaction;

@@ -4,7 +4,7 @@ use Rattle.std.specs.Prelude.{Option, Some, None}
 use Rattle.bk_base.specs.Tables.{put}
 use Rattle.bk_base.specs.declared.coh.Coh.{Coh}
 use Rattle.bk_base.specs.States.{is_writable}
-use Rattle.bk_machine.specs.Messages.{Load, Store, UcLoad, UcStore, Evict, Request, ToCache, Blk, StWake, UcBlk, UcDone, EvictDone, FillMessage, Response, CohAck, request_of}
+use Rattle.bk_machine.specs.Messages.{Spot, Load, Store, UcLoad, UcStore, Evict, Request, ToCache, Blk, StWake, UcBlk, UcDone, EvictDone, FillMessage, Response, CohAck, request_of}
 use Rattle.bk_machine.specs.Transactions.{InProgress, Transaction, open_transaction, new_transaction}
 use Rattle.bk_machine.specs.Phases.{Flush, NoFlush, Ack, NoInv, ByBlock, ByWake, ByFill, ByWord, ByDone, Phase, Free, Open, Flying, Settling}
 use Rattle.bk_machine.specs.World.{GroupState}
@@ -29,64 +29,64 @@ with_transaction-is part transaction e = ap (λ (y : Option Transaction). record
 
 -- ARRIVALS
 
-module _ (part : GroupState) (c t w j : ℕ) (p : Phase) (good : Good p part) where
-  pub block_loads : (state : Coh) (ws : ℕ → ℕ) (rest : List ToCache) → part.command c ≡ Blk t w state ws ∷ rest
-      → part.busy c ≡ Some (record { op = Load t j; way = w })
-      → Fine (take_command (loaded part c t w state ws j) c rest)
-  block_loads state ws rest e f =
-      let head : (p ≡ Flying c (record { op = Load t j; way = w }) (ByBlock state ws)) × (rest ≡ []) =
+module _ (part : GroupState) (c t w : ℕ) (p : Phase) (good : Good p part) where
+  pub block_loads : (spot : Spot) (state : Coh) (ws : ℕ → ℕ) (rest : List ToCache) → part.command c ≡ Blk t w state ws ∷ rest
+      → part.busy c ≡ Some (record { op = Load t spot; way = w })
+      → Fine (take_command (loaded part c t w state ws spot) c rest)
+  block_loads spot state ws rest e f =
+      let head : (p ≡ Flying c (record { op = Load t spot; way = w }) (ByBlock state ws)) × (rest ≡ []) =
       blk_head p part.busy c t w state ws rest _ (sym (good.commands c) ∙ e) good.taker f in
-      (_, block_loaded part c t w j state ws rest (subst (λ (p : Phase). Good p part) head.0 good) head.1)
+      (_, block_loaded part c t w spot state ws rest (subst (λ (p : Phase). Good p part) head.0 good) head.1)
 
-  pub block_stores : (n : ℕ) (state : Coh) (ws : ℕ → ℕ) (rest : List ToCache) → part.command c ≡ Blk t w state ws ∷ rest
-      → part.busy c ≡ Some (record { op = Store t j n; way = w }) → is_writable state ≡ true
-      → Fine (take_command (stored part c t w ws j n) c rest)
-  block_stores n state ws rest e f writes =
-      let head : (p ≡ Flying c (record { op = Store t j n; way = w }) (ByBlock state ws)) × (rest ≡ []) =
+  pub block_stores : (j : ℕ) (change : ℕ → ℕ) (state : Coh) (ws : ℕ → ℕ) (rest : List ToCache) → part.command c ≡ Blk t w state ws ∷ rest
+      → part.busy c ≡ Some (record { op = Store t j change; way = w }) → is_writable state ≡ true
+      → Fine (take_command (stored part c t w ws j change) c rest)
+  block_stores j change state ws rest e f writes =
+      let head : (p ≡ Flying c (record { op = Store t j change; way = w }) (ByBlock state ws)) × (rest ≡ []) =
       blk_head p part.busy c t w state ws rest _ (sym (good.commands c) ∙ e) good.taker f in
-      (_, block_stored part c t w j n state ws rest (subst (λ (p : Phase). Good p part) head.0 good) writes head.1)
+      (_, block_stored part c t w j change state ws rest (subst (λ (p : Phase). Good p part) head.0 good) writes head.1)
 
-  pub wake_stores : (n : ℕ) (rest : List ToCache) → part.command c ≡ StWake t w ∷ rest
-      → part.busy c ≡ Some (record { op = Store t j n; way = w })
-      → Fine (take_command (stored part c t w (part.words c w) j n) c rest)
-  wake_stores n rest e f =
-      let head : (p ≡ Flying c (record { op = Store t j n; way = w }) ByWake) × (rest ≡ []) =
+  pub wake_stores : (j : ℕ) (change : ℕ → ℕ) (rest : List ToCache) → part.command c ≡ StWake t w ∷ rest
+      → part.busy c ≡ Some (record { op = Store t j change; way = w })
+      → Fine (take_command (stored part c t w (part.words c w) j change) c rest)
+  wake_stores j change rest e f =
+      let head : (p ≡ Flying c (record { op = Store t j change; way = w }) ByWake) × (rest ≡ []) =
       wake_head p part.busy c t w rest _ (sym (good.commands c) ∙ e) good.taker f in
-      (_, wake_stored part c t w j n rest (subst (λ (p : Phase). Good p part) head.0 good) head.1)
+      (_, wake_stored part c t w j change rest (subst (λ (p : Phase). Good p part) head.0 good) head.1)
 
-  pub fill_loads : (o : ℕ) (state : Coh) (ws : ℕ → ℕ) (rest : List FillMessage)
+  pub fill_loads : (spot : Spot) (o : ℕ) (state : Coh) (ws : ℕ → ℕ) (rest : List FillMessage)
       → part.fill c o ≡ record { tag = t; way = w; state = state; words = ws } ∷ rest
-      → part.busy c ≡ Some (record { op = Load t j; way = w })
-      → Fine (take_fill (loaded part c t w state ws j) c o rest)
-  fill_loads o state ws rest e f =
-      let head : (p ≡ Flying c (record { op = Load t j; way = w }) (ByFill o state ws)) × (rest ≡ []) =
+      → part.busy c ≡ Some (record { op = Load t spot; way = w })
+      → Fine (take_fill (loaded part c t w state ws spot) c o rest)
+  fill_loads spot o state ws rest e f =
+      let head : (p ≡ Flying c (record { op = Load t spot; way = w }) (ByFill o state ws)) × (rest ≡ []) =
       fill_head p part.busy c o (record { tag = t; way = w; state = state; words = ws }) rest _ (sym (good.fills c o) ∙ e) good.taker f in
-      (_, fill_loaded part c o t w j state ws rest (subst (λ (p : Phase). Good p part) head.0 good) head.1)
+      (_, fill_loaded part c o t w spot state ws rest (subst (λ (p : Phase). Good p part) head.0 good) head.1)
 
-  pub fill_stores : (n o : ℕ) (state : Coh) (ws : ℕ → ℕ) (rest : List FillMessage)
+  pub fill_stores : (j : ℕ) (change : ℕ → ℕ) (o : ℕ) (state : Coh) (ws : ℕ → ℕ) (rest : List FillMessage)
       → part.fill c o ≡ record { tag = t; way = w; state = state; words = ws } ∷ rest
-      → part.busy c ≡ Some (record { op = Store t j n; way = w }) → is_writable state ≡ true
-      → Fine (take_fill (stored part c t w ws j n) c o rest)
-  fill_stores n o state ws rest e f writes =
-      let head : (p ≡ Flying c (record { op = Store t j n; way = w }) (ByFill o state ws)) × (rest ≡ []) =
+      → part.busy c ≡ Some (record { op = Store t j change; way = w }) → is_writable state ≡ true
+      → Fine (take_fill (stored part c t w ws j change) c o rest)
+  fill_stores j change o state ws rest e f writes =
+      let head : (p ≡ Flying c (record { op = Store t j change; way = w }) (ByFill o state ws)) × (rest ≡ []) =
       fill_head p part.busy c o (record { tag = t; way = w; state = state; words = ws }) rest _ (sym (good.fills c o) ∙ e) good.taker f in
-      (_, fill_stored part c o t w j n state ws rest (subst (λ (p : Phase). Good p part) head.0 good) writes head.1)
+      (_, fill_stored part c o t w j change state ws rest (subst (λ (p : Phase). Good p part) head.0 good) writes head.1)
 
-  pub word_arrives : (n : ℕ) (rest : List ToCache) → part.command c ≡ UcBlk t j n ∷ rest
-      → part.busy c ≡ Some (record { op = UcLoad t j; way = w })
-      → Fine (finished part c t (UcLoad t j) n rest)
-  word_arrives n rest e f =
-      let head : (p ≡ Flying c (record { op = UcLoad t j; way = w }) (ByWord n)) × (rest ≡ []) =
-      word_head p part.busy c t j n rest _ (sym (good.commands c) ∙ e) good.taker f in
-      (_, word_comes part c t w j n rest (subst (λ (p : Phase). Good p part) head.0 good) head.1)
+  pub word_arrives : (spot : Spot) (n : ℕ) (rest : List ToCache) → part.command c ≡ UcBlk t spot.word n ∷ rest
+      → part.busy c ≡ Some (record { op = UcLoad t spot; way = w })
+      → Fine (finished part c t (UcLoad t spot) (spot.of n) rest)
+  word_arrives spot n rest e f =
+      let head : (p ≡ Flying c (record { op = UcLoad t spot; way = w }) (ByWord n)) × (rest ≡ []) =
+      word_head p part.busy c t spot.word n rest _ (sym (good.commands c) ∙ e) good.taker f in
+      (_, word_comes part c t w spot n rest (subst (λ (p : Phase). Good p part) head.0 good) head.1)
 
-  pub store_arrives : (n : ℕ) (rest : List ToCache) → part.command c ≡ UcDone t j ∷ rest
-      → part.busy c ≡ Some (record { op = UcStore t j n; way = w })
-      → Fine (finished part c t (UcStore t j n) 0 rest)
-  store_arrives n rest e f =
-      let head : (p ≡ Flying c (record { op = UcStore t j n; way = w }) ByDone) × (rest ≡ []) =
+  pub store_arrives : (j : ℕ) (change : ℕ → ℕ) (rest : List ToCache) → part.command c ≡ UcDone t j ∷ rest
+      → part.busy c ≡ Some (record { op = UcStore t j change; way = w })
+      → Fine (finished part c t (UcStore t j change) 0 rest)
+  store_arrives j change rest e f =
+      let head : (p ≡ Flying c (record { op = UcStore t j change; way = w }) ByDone) × (rest ≡ []) =
       uc_done_head p part.busy c t j rest _ (sym (good.commands c) ∙ e) good.taker f in
-      (_, store_comes part c t w j n rest (subst (λ (p : Phase). Good p part) head.0 good) head.1)
+      (_, store_comes part c t w j change rest (subst (λ (p : Phase). Good p part) head.0 good) head.1)
 
   pub evict_arrives : (rest : List ToCache) → part.command c ≡ EvictDone t ∷ rest
       → part.busy c ≡ Some (record { op = Evict t; way = w })

@@ -3,7 +3,7 @@ use Rattle.std.proofs.Common.{◌≡◌, ℕ, ◌≢◌, Bool, true, false, refl
 use Rattle.std.specs.Prelude.{Some}
 use Rattle.bk_base.specs.Tables.{put}
 use Rattle.bk_machine.specs.Entries.{Holds, is_light}
-use Rattle.bk_machine.specs.Messages.{Request, Op, Load, Store, UcLoad, UcStore, Evict, Wr, UcRd, UcWr, EvictRequest, StTr, Blk, StWake, UcBlk, UcDone, EvictDone, WriteWord, op_tag, request_of, request_way, asks_block, request_suits, request_tag}
+use Rattle.bk_machine.specs.Messages.{Request, Op, Spot, Load, Store, UcLoad, UcStore, Evict, Wr, UcRd, UcWr, EvictRequest, StTr, Blk, StWake, UcBlk, UcDone, EvictDone, WriteWord, op_tag, request_of, request_way, asks_block, request_suits, request_tag}
 use Rattle.bk_machine.specs.Transactions.{InProgress, Idle, Reading, NotRead, Got, Transaction, open_transaction, is_asked}
 use Rattle.bk_machine.specs.Phases.{NoFlush, Ack, ByBlock, ByWake, ByTransfer, ByWord, ByDone, Phase, Open, Flying}
 use Rattle.bk_machine.proofs.Allowed.{fits}
@@ -165,24 +165,24 @@ module _ (p : Phase) (part : GroupState) (x : Transaction) (good : Good p part) 
         });
       })
 
-      wake : (t number n y : ℕ) (inv : ℕ → Ack)
-          → x ≡ open_transaction x.cache (record { op = Store t number n; way = y }) Idle x.reading x.written []
-          → Good (Open x.cache (record { op = Store t number n; way = y }) NoFlush inv)
+      wake : (t number : ℕ) (change : ℕ → ℕ) (y : ℕ) (inv : ℕ → Ack)
+          → x ≡ open_transaction x.cache (record { op = Store t number change; way = y }) Idle x.reading x.written []
+          → Good (Open x.cache (record { op = Store t number change; way = y }) NoFlush inv)
           (record part {
             transaction = Some
-                (open_transaction x.cache (record { op = Store t number n; way = y }) Idle x.reading x.written []);
+                (open_transaction x.cache (record { op = Store t number change; way = y }) Idle x.reading x.written []);
           }) → t ≡ u → y ≡ w → Woken
-      wake t number n y inv s h a b = (
-        Flying x.cache (record { op = Store t number n; way = y }) ByWake,
+      wake t number change y inv s h a b = (
+        Flying x.cache (record { op = Store t number change; way = y }) ByWake,
         rw (← a, ← b) (subst
-            (λ (other : Transaction). Good (Flying x.cache (record { op = Store t number n; way = y }) ByWake) (record part {
+            (λ (other : Transaction). Good (Flying x.cache (record { op = Store t number change; way = y }) ByWake) (record part {
               command = put part.command x.cache (part.command x.cache ++ StWake t y ∷ []);
               transaction = Some (record other {
                 granted = true;
                 requester_debt = Some (record { cache = x.cache; way = y; entry = record { tag = t; state = M } });
               });
             })) (sym s)
-            (wake_good part x.cache y t number n x.reading x.written inv h asked (
+            (wake_good part x.cache y t number change x.reading x.written inv h asked (
               v,
               subst (λ (i : ℕ). Holds (part.directory x.cache v) i) (sym a) has,
             )
@@ -194,10 +194,10 @@ module _ (p : Phase) (part : GroupState) (x : Transaction) (good : Good p part) 
           → Good (Open x.cache (record { op = op; way = y }) NoFlush inv)
           (record part { transaction = Some (open_transaction x.cache (record { op = op; way = y }) Idle x.reading x.written []) })
           → request_of op y ≡ Wr u w → Woken
-      at (Load t number) y inv s h f = absurd (cc f)
-      at (Store t number n) y inv s h f = wake t number n y inv s h (cc f) (cc f)
-      at (UcLoad t number) y inv s h f = absurd (cc f)
-      at (UcStore t number n) y inv s h f = absurd (cc f)
+      at (Load t spot) y inv s h f = absurd (cc f)
+      at (Store t number change) y inv s h f = wake t number change y inv s h (cc f) (cc f)
+      at (UcLoad t spot) y inv s h f = absurd (cc f)
+      at (UcStore t number change) y inv s h f = absurd (cc f)
       at (Evict t) y inv s h f = absurd (cc f)
 
   -- Only a UcLoad makes a UcRd. Then as the lemma of the open phase says.
@@ -215,24 +215,24 @@ module _ (p : Phase) (part : GroupState) (x : Transaction) (good : Good p part) 
             transaction = Some (record x { granted = true });
           })
 
-      answer : (t j y : ℕ) (inv : ℕ → Ack)
-          → x ≡ open_transaction x.cache (record { op = UcLoad t j; way = y }) Idle x.reading x.written []
-          → Good (Open x.cache (record { op = UcLoad t j; way = y }) NoFlush inv)
+      answer : (t : ℕ) (spot : Spot) (y : ℕ) (inv : ℕ → Ack)
+          → x ≡ open_transaction x.cache (record { op = UcLoad t spot; way = y }) Idle x.reading x.written []
+          → Good (Open x.cache (record { op = UcLoad t spot; way = y }) NoFlush inv)
           (record part {
-            transaction = Some (open_transaction x.cache (record { op = UcLoad t j; way = y }) Idle x.reading x.written []);
-          }) → t ≡ u → j ≡ number → Answered
-      answer t j y inv s h a b = (
-        Flying x.cache (record { op = UcLoad t j; way = y }) (ByWord (ws j)),
+            transaction = Some (open_transaction x.cache (record { op = UcLoad t spot; way = y }) Idle x.reading x.written []);
+          }) → t ≡ u → spot.word ≡ number → Answered
+      answer t spot y inv s h a b = (
+        Flying x.cache (record { op = UcLoad t spot; way = y }) (ByWord (ws spot.word)),
         rw (← a, ← b) (subst
-            (λ (other : Transaction). Good (Flying x.cache (record { op = UcLoad t j; way = y }) (ByWord (ws j))) (record part {
-              command = put part.command x.cache (part.command x.cache ++ UcBlk t j (ws j) ∷ []);
+            (λ (other : Transaction). Good (Flying x.cache (record { op = UcLoad t spot; way = y }) (ByWord (ws spot.word))) (record part {
+              command = put part.command x.cache (part.command x.cache ++ UcBlk t spot.word (ws spot.word) ∷ []);
               transaction = Some (record other { granted = true });
             })) (sym (subst (λ (r : Reading). x
-            ≡ open_transaction x.cache (record { op = UcLoad t j; way = y }) Idle r x.written []) got s))
-            (Answer.word_good part x.cache y t j ws x.written inv
-            (subst (λ (r : Reading). Good (Open x.cache (record { op = UcLoad t j; way = y }) NoFlush inv)
+            ≡ open_transaction x.cache (record { op = UcLoad t spot; way = y }) Idle r x.written []) got s))
+            (Answer.word_good part x.cache y t spot ws x.written inv
+            (subst (λ (r : Reading). Good (Open x.cache (record { op = UcLoad t spot; way = y }) NoFlush inv)
             (record part {
-              transaction = Some (open_transaction x.cache (record { op = UcLoad t j; way = y }) Idle r x.written []);
+              transaction = Some (open_transaction x.cache (record { op = UcLoad t spot; way = y }) Idle r x.written []);
             })) got h))),
       )
 
@@ -241,19 +241,19 @@ module _ (p : Phase) (part : GroupState) (x : Transaction) (good : Good p part) 
           → Good (Open x.cache (record { op = op; way = y }) NoFlush inv)
           (record part { transaction = Some (open_transaction x.cache (record { op = op; way = y }) Idle x.reading x.written []) })
           → request_of op y ≡ UcRd u number → Answered
-      at (Load t number) y inv s h f = absurd (cc f)
-      at (Store t number n) y inv s h f = absurd (cc f)
-      at (UcLoad t number) y inv s h f = answer t number y inv s h (cc f) (cc f)
-      at (UcStore t number n) y inv s h f = absurd (cc f)
+      at (Load t spot) y inv s h f = absurd (cc f)
+      at (Store t number change) y inv s h f = absurd (cc f)
+      at (UcLoad t spot) y inv s h f = answer t spot y inv s h (cc f) (cc f)
+      at (UcStore t number change) y inv s h f = absurd (cc f)
       at (Evict t) y inv s h f = absurd (cc f)
 
   -- Only a UcStore makes a UcWr. Then as the lemma of the open phase says.
-  pub answers_store : (u number n : ℕ) → x.request ≡ UcWr u number n → x.written ≡ true → is_asked x.reading ≡ false
+  pub answers_store : (u number : ℕ) (f : ℕ → ℕ) → x.request ≡ UcWr u number f → x.written ≡ true → is_asked x.reading ≡ false
       → Fine (record part {
         command = put part.command x.cache (part.command x.cache ++ UcDone u number ∷ []);
         transaction = Some (record x { granted = true });
       })
-  answers_store u number n e wrote asked = at q.busy.op q.busy.way q.inv q.shape q.good (request ∙ e)
+  answers_store u number f e wrote asked = at q.busy.op q.busy.way q.inv q.shape q.good (request ∙ e)
     where
       Answered : Type 0
       Answered = Fine (record part {
@@ -261,26 +261,26 @@ module _ (p : Phase) (part : GroupState) (x : Transaction) (good : Good p part) 
         transaction = Some (record x { granted = true });
       })
 
-      answer : (t j count y : ℕ) (inv : ℕ → Ack)
-          → x ≡ open_transaction x.cache (record { op = UcStore t j count; way = y }) Idle x.reading x.written []
-          → Good (Open x.cache (record { op = UcStore t j count; way = y }) NoFlush inv)
+      answer : (t j : ℕ) (change : ℕ → ℕ) (y : ℕ) (inv : ℕ → Ack)
+          → x ≡ open_transaction x.cache (record { op = UcStore t j change; way = y }) Idle x.reading x.written []
+          → Good (Open x.cache (record { op = UcStore t j change; way = y }) NoFlush inv)
           (record part {
             transaction = Some
-                (open_transaction x.cache (record { op = UcStore t j count; way = y }) Idle x.reading x.written []);
+                (open_transaction x.cache (record { op = UcStore t j change; way = y }) Idle x.reading x.written []);
           }) → t ≡ u
           → j ≡ number → Answered
-      answer t j count y inv s h a b = (
-        Flying x.cache (record { op = UcStore t j count; way = y }) ByDone,
+      answer t j change y inv s h a b = (
+        Flying x.cache (record { op = UcStore t j change; way = y }) ByDone,
         rw (← a, ← b) (subst
-            (λ (z : Transaction). Good (Flying x.cache (record { op = UcStore t j count; way = y }) ByDone) (record part {
+            (λ (z : Transaction). Good (Flying x.cache (record { op = UcStore t j change; way = y }) ByDone) (record part {
               command = put part.command x.cache (part.command x.cache ++ UcDone t j ∷ []);
               transaction = Some (record z { granted = true });
             })) (sym (subst (λ (z : Bool). x
-            ≡ open_transaction x.cache (record { op = UcStore t j count; way = y }) Idle x.reading z []) wrote s))
-            (stored_good part x.cache y t j count x.reading inv
-            (subst (λ (z : Bool). Good (Open x.cache (record { op = UcStore t j count; way = y }) NoFlush inv)
+            ≡ open_transaction x.cache (record { op = UcStore t j change; way = y }) Idle x.reading z []) wrote s))
+            (stored_good part x.cache y t j change x.reading inv
+            (subst (λ (z : Bool). Good (Open x.cache (record { op = UcStore t j change; way = y }) NoFlush inv)
             (record part {
-              transaction = Some (open_transaction x.cache (record { op = UcStore t j count; way = y }) Idle x.reading z []);
+              transaction = Some (open_transaction x.cache (record { op = UcStore t j change; way = y }) Idle x.reading z []);
             })) wrote h) asked)),
       )
 
@@ -288,11 +288,11 @@ module _ (p : Phase) (part : GroupState) (x : Transaction) (good : Good p part) 
           → x ≡ open_transaction x.cache (record { op = op; way = y }) Idle x.reading x.written []
           → Good (Open x.cache (record { op = op; way = y }) NoFlush inv)
           (record part { transaction = Some (open_transaction x.cache (record { op = op; way = y }) Idle x.reading x.written []) })
-          → request_of op y ≡ UcWr u number n → Answered
-      at (Load t number) y inv s h f = absurd (cc f)
-      at (Store t number n) y inv s h f = absurd (cc f)
-      at (UcLoad t number) y inv s h f = absurd (cc f)
-      at (UcStore t j count) y inv s h f = answer t j count y inv s h (cc f) (cc f)
+          → request_of op y ≡ UcWr u number f → Answered
+      at (Load t spot) y inv s h f = absurd (cc f)
+      at (Store t number change) y inv s h f = absurd (cc f)
+      at (UcLoad t spot) y inv s h f = absurd (cc f)
+      at (UcStore t j change) y inv s h f = answer t j change y inv s h (cc f) (cc f)
       at (Evict t) y inv s h f = absurd (cc f)
 
   -- Only an Evict makes an EvictRequest. Then as the lemma of the open phase says.
@@ -327,63 +327,63 @@ module _ (p : Phase) (part : GroupState) (x : Transaction) (good : Good p part) 
           → Good (Open x.cache (record { op = op; way = y }) NoFlush inv)
           (record part { transaction = Some (open_transaction x.cache (record { op = op; way = y }) Idle x.reading x.written []) })
           → request_of op y ≡ EvictRequest u w → Answered
-      at (Load t number) y inv s h f = absurd (cc f)
-      at (Store t number n) y inv s h f = absurd (cc f)
-      at (UcLoad t number) y inv s h f = absurd (cc f)
-      at (UcStore t j count) y inv s h f = absurd (cc f)
+      at (Load t spot) y inv s h f = absurd (cc f)
+      at (Store t number change) y inv s h f = absurd (cc f)
+      at (UcLoad t spot) y inv s h f = absurd (cc f)
+      at (UcStore t j change) y inv s h f = absurd (cc f)
       at (Evict t) y inv s h f = answer t y inv s h (cc f)
 
   -- Only a UcStore makes a UcWr. Then as the lemma of the open phase says.
-  pub writes_word : (u number n : ℕ) → x.request ≡ UcWr u number n → x.written ≡ false → x.reading ≡ NotRead
+  pub writes_word : (u number : ℕ) (f : ℕ → ℕ) → x.request ≡ UcWr u number f → x.written ≡ false → x.reading ≡ NotRead
       → ((c w : ℕ) → Holds (part.directory c w) u → ⊥)
-      → Fine (record part { memout = part.memout ++ WriteWord u number n ∷ []; transaction = Some (record x { written = true }) })
-  writes_word u number n e wrote unread nobody = at q.busy.op q.busy.way q.inv q.shape q.good (request ∙ e)
+      → Fine (record part { memout = part.memout ++ WriteWord u number f ∷ []; transaction = Some (record x { written = true }) })
+  writes_word u number f e wrote unread nobody = at q.busy.op q.busy.way q.inv q.shape q.good (request ∙ e)
     where
       Answered : Type 0
       Answered = Fine (record part {
-        memout = part.memout ++ WriteWord u number n ∷ [];
+        memout = part.memout ++ WriteWord u number f ∷ [];
         transaction = Some (record x { written = true });
       })
 
       Shape : InProgress → Type 0
       Shape b = x ≡ open_transaction x.cache b Idle x.reading x.written []
 
-      answer : (t j count y : ℕ) (inv : ℕ → Ack)
-          → x ≡ open_transaction x.cache (record { op = UcStore t j count; way = y }) Idle x.reading x.written []
-          → Good (Open x.cache (record { op = UcStore t j count; way = y }) NoFlush inv)
+      answer : (t j : ℕ) (change : ℕ → ℕ) (y : ℕ) (inv : ℕ → Ack)
+          → x ≡ open_transaction x.cache (record { op = UcStore t j change; way = y }) Idle x.reading x.written []
+          → Good (Open x.cache (record { op = UcStore t j change; way = y }) NoFlush inv)
           (record part {
             transaction = Some
-                (open_transaction x.cache (record { op = UcStore t j count; way = y }) Idle x.reading x.written []);
+                (open_transaction x.cache (record { op = UcStore t j change; way = y }) Idle x.reading x.written []);
           }) → t ≡ u → j ≡ number
-          → count ≡ n → Answered
-      answer t j count y inv s h a b d =
-          let h1 : Good (Open x.cache (record { op = UcStore t j count; way = y }) NoFlush inv)
+          → change ≡ f → Answered
+      answer t j change y inv s h a b d =
+          let h1 : Good (Open x.cache (record { op = UcStore t j change; way = y }) NoFlush inv)
           (record part {
             transaction = Some
-                (open_transaction x.cache (record { op = UcStore t j count; way = y }) Idle x.reading false []);
+                (open_transaction x.cache (record { op = UcStore t j change; way = y }) Idle x.reading false []);
           }) =
-          subst (λ (z : Bool). Good (Open x.cache (record { op = UcStore t j count; way = y }) NoFlush inv)
+          subst (λ (z : Bool). Good (Open x.cache (record { op = UcStore t j change; way = y }) NoFlush inv)
           (record part {
-            transaction = Some (open_transaction x.cache (record { op = UcStore t j count; way = y }) Idle x.reading z []);
+            transaction = Some (open_transaction x.cache (record { op = UcStore t j change; way = y }) Idle x.reading z []);
           })) wrote h in
-          let h2 : Good (Open x.cache (record { op = UcStore t j count; way = y }) NoFlush inv)
+          let h2 : Good (Open x.cache (record { op = UcStore t j change; way = y }) NoFlush inv)
           (record part {
             transaction = Some
-                (open_transaction x.cache (record { op = UcStore t j count; way = y }) Idle NotRead false []);
+                (open_transaction x.cache (record { op = UcStore t j change; way = y }) Idle NotRead false []);
           }) =
-          subst (λ (z : Reading). Good (Open x.cache (record { op = UcStore t j count; way = y }) NoFlush inv)
+          subst (λ (z : Reading). Good (Open x.cache (record { op = UcStore t j change; way = y }) NoFlush inv)
           (record part {
-            transaction = Some (open_transaction x.cache (record { op = UcStore t j count; way = y }) Idle z false []);
+            transaction = Some (open_transaction x.cache (record { op = UcStore t j change; way = y }) Idle z false []);
           })) unread h1 in
-          let s2 : x ≡ open_transaction x.cache (record { op = UcStore t j count; way = y }) Idle NotRead x.written [] = subst
-          (λ (z : Reading). x ≡ open_transaction x.cache (record { op = UcStore t j count; way = y }) Idle z x.written []) unread s in (
-            Open x.cache (record { op = UcStore t j count; way = y }) NoFlush inv,
+          let s2 : x ≡ open_transaction x.cache (record { op = UcStore t j change; way = y }) Idle NotRead x.written [] = subst
+          (λ (z : Reading). x ≡ open_transaction x.cache (record { op = UcStore t j change; way = y }) Idle z x.written []) unread s in (
+            Open x.cache (record { op = UcStore t j change; way = y }) NoFlush inv,
             rw (← a, ← b, ← d) (subst
-                (λ (z : Transaction). Good (Open x.cache (record { op = UcStore t j count; way = y }) NoFlush inv) (record part {
-                  memout = part.memout ++ WriteWord t j count ∷ [];
+                (λ (z : Transaction). Good (Open x.cache (record { op = UcStore t j change; way = y }) NoFlush inv) (record part {
+                  memout = part.memout ++ WriteWord t j change ∷ [];
                   transaction = Some (record z { written = true });
                 })) (sym s2)
-                (word_good part x.cache y t j count inv h2
+                (word_good part x.cache y t j change inv h2
                 (λ c w l. nobody c w (subst (λ (z : ℕ). Holds (part.directory c w) z) a l)))),
           )
 
@@ -391,9 +391,9 @@ module _ (p : Phase) (part : GroupState) (x : Transaction) (good : Good p part) 
           → x ≡ open_transaction x.cache (record { op = op; way = y }) Idle x.reading x.written []
           → Good (Open x.cache (record { op = op; way = y }) NoFlush inv)
           (record part { transaction = Some (open_transaction x.cache (record { op = op; way = y }) Idle x.reading x.written []) })
-          → request_of op y ≡ UcWr u number n → Answered
-      at (Load t number) y inv s h f = absurd (cc f)
-      at (Store t number n) y inv s h f = absurd (cc f)
-      at (UcLoad t number) y inv s h f = absurd (cc f)
-      at (UcStore t j count) y inv s h f = answer t j count y inv s h (cc f) (cc f) (cc f)
+          → request_of op y ≡ UcWr u number f → Answered
+      at (Load t spot) y inv s h f = absurd (cc f)
+      at (Store t number change) y inv s h f = absurd (cc f)
+      at (UcLoad t spot) y inv s h f = absurd (cc f)
+      at (UcStore t j change) y inv s h f = answer t j change y inv s h (cc f) (cc f) (cc f)
       at (Evict t) y inv s h f = absurd (cc f)

@@ -19,20 +19,20 @@ use Rattle.bk_base.specs.declared.coh.Coh.{Coh}
 use Rattle.bk_base.specs.States.{is_owner_like}
 
 pub request-way : (op : Op) (w : ℕ) → asks_block (request_of op w) ≡ true → request_way (request_of op w) ≡ w
-request-way (Load t k) w e = refl
-request-way (Store t k n) w e = refl
-request-way (UcLoad t k) w e = absurd (cc e)
-request-way (UcStore t k n) w e = absurd (cc e)
+request-way (Load t spot) w e = refl
+request-way (Store t k change) w e = refl
+request-way (UcLoad t spot) w e = absurd (cc e)
+request-way (UcStore t k change) w e = absurd (cc e)
 request-way (Evict t) w e = absurd (cc e)
 
 pub asks-wants : (op : Op) (w : ℕ) → asks_block (request_of op w) ≡ true → wants_block op ≡ true
 asks-wants op w e = grind arith
 
 pub request-suits : (op : Op) (w : ℕ) (state : Coh) → request_suits (request_of op w) state ≡ op_suits op state
-request-suits (Load t k) w state = refl
-request-suits (Store t k v) w state = refl
-request-suits (UcLoad t k) w state = refl
-request-suits (UcStore t k v) w state = refl
+request-suits (Load t spot) w state = refl
+request-suits (Store t k change) w state = refl
+request-suits (UcLoad t spot) w state = refl
+request-suits (UcStore t k change) w state = refl
 request-suits (Evict t) w state = refl
 
 asks-reads : (op : Op) (w : ℕ) → asks_read (request_of op w) ≡ true → reads_memory op ≡ true

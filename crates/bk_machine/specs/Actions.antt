@@ -25,12 +25,12 @@ pub data Action : Type 0 where
   FlushesOwner : (owner way : ℕ) → (to : Coh) → Transaction → Action
   WritesBack : MemoryBlock → Transaction → Action
   ReadsMemory : Transaction → Action
-  WritesWord : (tag word value : ℕ) → Transaction → Action
+  WritesWord : (tag word : ℕ) → (change : ℕ → ℕ) → Transaction → Action
   GrantsByBlock : (words : ℕ → ℕ) → (state : Coh) → Transaction → Action
   GrantsByWake : (tag way : ℕ) → Transaction → Action
   GrantsByTransfer : (owner way : ℕ) → (owner_state state : Coh) → Transaction → Action
   AnswersWord : (tag word : ℕ) → (words : ℕ → ℕ) → Transaction → Action
-  AnswersStore : (tag word value : ℕ) → Transaction → Action
+  AnswersStore : (tag word : ℕ) → (change : ℕ → ℕ) → Transaction → Action
   AnswersEvict : (tag way : ℕ) → Transaction → Action
   PaysRequester : Debt → Transaction → Action
   PaysOwner : Debt → Transaction → Action
@@ -158,8 +158,8 @@ Permitted k g (ReadsMemory x) world =
     × (x.reading ≡ NotRead) × (x.write_back ≡ Idle) × NoneOrForward (owner_state_for k (world.directory g) x)
     × (is_light (own_for k (world.directory g) x) ≡ true)
 -- write word: ungranted UcWr, word not written; own I, owner none, others empty, acks 0, no flush, not read
-Permitted k g (WritesWord t i n x) world =
-    Ready g x world × (x.request ≡ UcWr t i n)
+Permitted k g (WritesWord t i f x) world =
+    Ready g x world × (x.request ≡ UcWr t i f)
     × (x.written ≡ false) × (own_for k (world.directory g) x ≡ I) × (owner_for k (world.directory g) x ≡ None)
     × (others_for k (world.directory g) x ≡ []) × (x.reading ≡ NotRead)
 -- grant by block: ungranted, acks 0, no flush, block got, victim light; the kind, the state granted, owner and others agree
@@ -181,7 +181,7 @@ Permitted k g (GrantsByTransfer o v y z x) world =
     × (z ≡ M → others_for k (world.directory g) x ≡ [])
 -- answer: ungranted, acks 0, no flush; UcRd with the block got, or UcWr with the word written, or Evict with own I
 Permitted k g (AnswersWord t i ws x) world = Ready g x world × (x.request ≡ UcRd t i) × (x.reading ≡ Got ws)
-Permitted k g (AnswersStore t i n x) world = Ready g x world × (x.request ≡ UcWr t i n) × (x.written ≡ true)
+Permitted k g (AnswersStore t i f x) world = Ready g x world × (x.request ≡ UcWr t i f) × (x.written ≡ true)
 Permitted k g (AnswersEvict t v x) world = Ready g x world × (x.request ≡ EvictRequest t v) × (own_for k (world.directory g) x ≡ I)
 -- pay: a debt is unpaid
 Permitted k g (PaysRequester d x) world = (world.transaction ≡ Some (g, x)) × (x.requester_debt ≡ Some d)
@@ -256,8 +256,8 @@ action_after g (ReadsMemory x) world =
     with_transaction g (record x { reading = ReadAsked })
     (record world { memout = world.memout ++ (g, Read (request_tag x.request)) ∷ [] })
 -- write word: WriteWord, the word written
-action_after g (WritesWord t i n x) world =
-    with_transaction g (record x { written = true }) (record world { memout = world.memout ++ (g, WriteWord t i n) ∷ [] })
+action_after g (WritesWord t i f x) world =
+    with_transaction g (record x { written = true }) (record world { memout = world.memout ++ (g, WriteWord t i f) ∷ [] })
 -- grant by block: Blk, granted, the requester's debt
 action_after g (GrantsByBlock ws y x) world =
     with_transaction g (record x { granted = true; requester_debt = debt_of_requester x y })
@@ -276,7 +276,7 @@ action_after g (GrantsByTransfer o v y z x) world =
 -- answer: UcBlk with the word, UcDone or Done; granted
 action_after g (AnswersWord t i ws x) world =
     with_transaction g (record x { granted = true }) (with_command_sent g x.cache (UcBlk t i (ws i)) world)
-action_after g (AnswersStore t i n x) world =
+action_after g (AnswersStore t i f x) world =
     with_transaction g (record x { granted = true }) (with_command_sent g x.cache (UcDone t i) world)
 action_after g (AnswersEvict t v x) world =
     with_transaction g (record x { granted = true }) (with_command_sent g x.cache (EvictDone t) world)

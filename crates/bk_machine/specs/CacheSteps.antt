@@ -22,14 +22,14 @@ at_way (Some v) f d = f v
 
 -- ISSUE: an idle cache is given an operation. `way` is the victim's, for a Load or Store of a block that isn't there.
 abbrev pub issue_row : ℕ → World → ℕ → ℕ → ℕ → Op → Option (ℕ × MachineStep)
-issue_row ways world c g way (Load t k) =
-    at_way (found_way ways (world.entries g c) t) (λ v. Some (g, LoadHits c t v k)) (Some (g, Asks c way (Load t k)))
-issue_row ways world c g way (Store t k n) =
+issue_row ways world c g way (Load t spot) =
+    at_way (found_way ways (world.entries g c) t) (λ v. Some (g, LoadHits c t v spot)) (Some (g, Asks c way (Load t spot)))
+issue_row ways world c g way (Store t k f) =
     at_way (found_way ways (world.entries g c) t)
-    (λ v. if is_writable (world.entries g c v).state then Some (g, StoreHits c t v k n) else Some (g, Asks c v (Store t k n)))
-    (Some (g, Asks c way (Store t k n)))
-issue_row ways world c g way (UcLoad t k) = Some (g, Asks c 0 (UcLoad t k))
-issue_row ways world c g way (UcStore t k n) = Some (g, Asks c 0 (UcStore t k n))
+    (λ v. if is_writable (world.entries g c v).state then Some (g, StoreHits c t v k f) else Some (g, Asks c v (Store t k f)))
+    (Some (g, Asks c way (Store t k f)))
+issue_row ways world c g way (UcLoad t spot) = Some (g, Asks c 0 (UcLoad t spot))
+issue_row ways world c g way (UcStore t k f) = Some (g, Asks c 0 (UcStore t k f))
 issue_row ways world c g way (Evict t) =
     at_way (found_way ways (world.entries g c) t) (λ v. Some (g, Asks c v (Evict t))) (Some (g, EvictIdles c t))
 
@@ -43,42 +43,42 @@ step_of_issue k world c g way op (Some b) = None
 -- Blk: a Load or Store of this block and way is in progress; for a Store the state is E or M
 abbrev pub block_row : ℕ → ℕ → ℕ → ℕ → Coh → (ℕ → ℕ) → List (ℕ × ToCache) → Op
     → Option (ℕ × MachineStep)
-block_row g c t w state ws rest (Load u k) = step_if (u == t) g (BlockLoads c t w k state ws rest)
-block_row g c t w state ws rest (Store u k n) = step_if (u == t && is_writable state) g (BlockStores c t w k n state ws rest)
-block_row g c t w state ws rest (UcLoad u k) = None
-block_row g c t w state ws rest (UcStore u k n) = None
+block_row g c t w state ws rest (Load u spot) = step_if (u == t) g (BlockLoads c t w spot state ws rest)
+block_row g c t w state ws rest (Store u k f) = step_if (u == t && is_writable state) g (BlockStores c t w k f state ws rest)
+block_row g c t w state ws rest (UcLoad u spot) = None
+block_row g c t w state ws rest (UcStore u k f) = None
 block_row g c t w state ws rest (Evict u) = None
 
 -- StWake: a Store of this block and way is in progress, and the entry at the way holds the block
 abbrev pub wake_row : World → ℕ → ℕ → ℕ → ℕ → List (ℕ × ToCache) → Op → Option (ℕ × MachineStep)
-wake_row world g c t w rest (Load u k) = None
-wake_row world g c t w rest (Store u k n) = step_if (u == t && holds (world.entries g c w) t) g (WakeStores c t w k n rest)
-wake_row world g c t w rest (UcLoad u k) = None
-wake_row world g c t w rest (UcStore u k n) = None
+wake_row world g c t w rest (Load u spot) = None
+wake_row world g c t w rest (Store u k f) = step_if (u == t && holds (world.entries g c w) t) g (WakeStores c t w k f rest)
+wake_row world g c t w rest (UcLoad u spot) = None
+wake_row world g c t w rest (UcStore u k f) = None
 wake_row world g c t w rest (Evict u) = None
 
 -- UcBlk: a UcLoad of this word is in progress
 abbrev pub word_row : ℕ → ℕ → ℕ → ℕ → ℕ → ℕ → List (ℕ × ToCache) → Op → Option (ℕ × MachineStep)
-word_row g c t w number n rest (Load u j) = None
-word_row g c t w number n rest (Store u j m) = None
-word_row g c t w number n rest (UcLoad u j) = step_if (u == t && j == number) g (WordComes c t w number n rest)
-word_row g c t w number n rest (UcStore u j m) = None
+word_row g c t w number n rest (Load u spot) = None
+word_row g c t w number n rest (Store u j f) = None
+word_row g c t w number n rest (UcLoad u spot) = step_if (u == t && spot.word == number) g (WordComes c t w spot n rest)
+word_row g c t w number n rest (UcStore u j f) = None
 word_row g c t w number n rest (Evict u) = None
 
 -- UcDone: a UcStore of this word is in progress
 abbrev pub stored_row : ℕ → ℕ → ℕ → ℕ → ℕ → List (ℕ × ToCache) → Op → Option (ℕ × MachineStep)
-stored_row g c t w number rest (Load u j) = None
-stored_row g c t w number rest (Store u j m) = None
-stored_row g c t w number rest (UcLoad u j) = None
-stored_row g c t w number rest (UcStore u j m) = step_if (u == t && j == number) g (StoreComes c t w number m rest)
+stored_row g c t w number rest (Load u spot) = None
+stored_row g c t w number rest (Store u j f) = None
+stored_row g c t w number rest (UcLoad u spot) = None
+stored_row g c t w number rest (UcStore u j f) = step_if (u == t && j == number) g (StoreComes c t w number f rest)
 stored_row g c t w number rest (Evict u) = None
 
 -- Done: an Evict of this block is in progress
 abbrev pub evicted_row : ℕ → ℕ → ℕ → ℕ → List (ℕ × ToCache) → Op → Option (ℕ × MachineStep)
-evicted_row g c t w rest (Load u j) = None
-evicted_row g c t w rest (Store u j m) = None
-evicted_row g c t w rest (UcLoad u j) = None
-evicted_row g c t w rest (UcStore u j m) = None
+evicted_row g c t w rest (Load u spot) = None
+evicted_row g c t w rest (Store u j f) = None
+evicted_row g c t w rest (UcLoad u spot) = None
+evicted_row g c t w rest (UcStore u j f) = None
 evicted_row g c t w rest (Evict u) = step_if (u == t) g (EvictComes c t w rest)
 
 -- by the operation in progress, where there is one and it is of the group
@@ -106,10 +106,10 @@ step_of_command ways world c (m ∷ rest) = command_row ways world c m.0 rest m.
 
 -- FILL: the head of a fill channel, as Blk
 abbrev pub fill_row : ℕ → ℕ → ℕ → FillMessage → List (ℕ × FillMessage) → Op → Option (ℕ × MachineStep)
-fill_row g c o m rest (Load u k) = step_if (u == m.tag) g (FillLoads c o m.tag m.way k m.state m.words rest)
-fill_row g c o m rest (Store u k n) = step_if (u == m.tag && is_writable m.state) g (FillStores c o m.tag m.way k n m.state m.words rest)
-fill_row g c o m rest (UcLoad u k) = None
-fill_row g c o m rest (UcStore u k n) = None
+fill_row g c o m rest (Load u spot) = step_if (u == m.tag) g (FillLoads c o m.tag m.way spot m.state m.words rest)
+fill_row g c o m rest (Store u k f) = step_if (u == m.tag && is_writable m.state) g (FillStores c o m.tag m.way k f m.state m.words rest)
+fill_row g c o m rest (UcLoad u spot) = None
+fill_row g c o m rest (UcStore u k f) = None
 fill_row g c o m rest (Evict u) = None
 
 abbrev pub step_of_fill : World → ℕ → ℕ → List (ℕ × FillMessage) → Option (ℕ × MachineStep)
@@ -120,7 +120,7 @@ step_of_fill world c o (m ∷ rest) = for_busy m.0 (world.busy c) (λ b. if b.wa
 abbrev pub memory_row : ℕ → List (ℕ × ToMemory) → ToMemory → ℕ × MachineStep
 memory_row g rest (Read t) = (g, MemoryReads t rest)
 memory_row g rest (Write t ws) = (g, MemoryWrites t ws rest)
-memory_row g rest (WriteWord t k n) = (g, MemoryWritesWord t k n rest)
+memory_row g rest (WriteWord t k f) = (g, MemoryWritesWord t k f rest)
 
 abbrev pub step_of_memory : List (ℕ × ToMemory) → Option (ℕ × MachineStep)
 step_of_memory [] = None

@@ -1,6 +1,5 @@
 -- What the table machine keeps: sole writers, latest answers, and pending groups.
-use Rattle.std.specs.Prelude.{ℕ, ◌≡◌, ◌≢◌, ◌+◌, ◌<◌, ◌≤◌, true, false, ◌&&◌, List, [], ◌∷◌, ◌++◌, Option, Some, None, unwrap_or, if◌then◌else◌, ◌==◌, is_some}
-use Rattle.bk_base.specs.Counting.{or_else}
+use Rattle.std.specs.Prelude.{ℕ, ◌≡◌, ◌≢◌, ◌+◌, ◌<◌, ◌≤◌, true, false, ◌&&◌, List, [], ◌∷◌, ◌++◌, Option, Some, None, if◌then◌else◌, ◌==◌, is_some}
 use Rattle.bk_base.specs.Places.{Shape}
 use Rattle.bk_base.specs.States.{is_writable}
 use Rattle.bk_machine.specs.Entries.{Holds, times}
@@ -16,25 +15,25 @@ pub record Sole (world : World) : Type 0 where
       → is_writable (world.entries g c w).state ≡ false
   pub one_way : (g t c w i : ℕ) → Holds (world.entries g c w) t → Holds (world.entries g c i) t → w ≡ i
 
--- the value that an operation of the history stores into a word (by group, tag, word), if it does
-abbrev pub stored_in : Op → ℕ → ℕ → Option ℕ
-stored_in (Store u j n) t number = if t == u && number == j then Some n else None
-stored_in (UcStore u j n) t number = if t == u && number == j then Some n else None
-stored_in op t number = None
+-- what an entry of the history makes of the value of a word (by group, tag, word): a Store or UcStore changes its own word
+abbrev pub changed_in : Op → ℕ → ℕ → ℕ → ℕ
+changed_in (Store u j f) t number n = if t == u && number == j then f n else n
+changed_in (UcStore u j f) t number n = if t == u && number == j then f n else n
+changed_in op t number n = n
 
-abbrev pub stored_by : ℕ × Completed → ℕ → ℕ → ℕ → Option ℕ
-stored_by d g t j = if g == d.0 then stored_in d.1.op t j else None
+abbrev pub changed_by : ℕ × Completed → ℕ → ℕ → ℕ → ℕ → ℕ
+changed_by d g t j n = if g == d.0 then changed_in d.1.op t j n else n
 
--- the value of a word's latest Store or UcStore in a list, the oldest entry first: that of the later entries, where they have one
-abbrev pub latest_store : List (ℕ × Completed) → ℕ → ℕ → ℕ → Option ℕ
-latest_store [] g t j = None
-latest_store (d ∷ later) g t j = or_else (latest_store later g t j) (stored_by d g t j)
+-- the value of a word after the entries of a list, the oldest first, where it was n before them; at first it is 0
+abbrev pub value_after : ℕ → List (ℕ × Completed) → ℕ → ℕ → ℕ → ℕ
+value_after n [] g t j = n
+value_after n (d ∷ later) g t j = value_after (changed_by d g t j n) later g t j
 
 abbrev pub latest_value : List (ℕ × Completed) → ℕ → ℕ → ℕ → ℕ
-latest_value ds g t j = unwrap_or (latest_store ds g t j) 0
+latest_value = value_after 0
 
--- The data-value rule over the one history: each load has answered the latest store of its word before it, or 0 where there is
--- none; every other operation has answered 0.
+-- The data-value rule over the one history: each load has answered its part of what the stores before it made of its word; every
+-- other operation has answered 0.
 pub record Latest (world : World) : Type 0 where
   pub answers : (before : List (ℕ × Completed)) (d : ℕ × Completed) (after : List (ℕ × Completed))
       → world.history ≡ before ++ d ∷ after

@@ -5,7 +5,7 @@ use Rattle.bk_base.specs.Places.{Shape}
 use Rattle.bk_base.specs.Tables.{put}
 use Rattle.bk_base.specs.declared.coh.Coh.{Coh}
 use Rattle.bk_base.specs.declared.coh.Coh.TheVariants.{I, S, E, O}
-use Rattle.bk_machine.specs.Messages.{Op, Load, Store, UcLoad, UcStore, Evict, Rd, UcRd, UcWr, EvictRequest, MemoryBlock, request_tag, request_way}
+use Rattle.bk_machine.specs.Messages.{Op, whole, becomes, Load, Store, UcLoad, UcStore, Evict, Rd, UcRd, UcWr, EvictRequest, MemoryBlock, request_tag, request_way}
 use Rattle.bk_machine.specs.Transactions.{FlushAsked, FlushKept, ReadAsked, Got, Debt, Transaction, new_transaction}
 use Rattle.bk_machine.specs.Words.{Completed}
 use Rattle.bk_machine.specs.Actions.{Takes, Settles, CollectsAck, CollectsAnswer, CollectsBlock, Invalidates, FlushesVictim, FlushesOwn, WritesBack, ReadsMemory, WritesWord, GrantsByBlock, GrantsByTransfer, AnswersWord, AnswersStore, AnswersEvict, PaysRequester, PaysOwner, Finishes}
@@ -69,12 +69,12 @@ stored_words = put zeros 3 5
 
 -- Cache 0 loads word 3 of block 0, and is granted E by memory's block.
 abbrev pub load_events : List Event
-load_events = Issue 0 0 (Load 0 3) 0 ∷ Engine 0 (Takes 0 (Rd 0 0) []) ∷ grant_from_memory 0 zeros E (new_transaction 0 (Rd 0 0))
+load_events = Issue 0 0 (Load 0 (whole 3)) 0 ∷ Engine 0 (Takes 0 (Rd 0 0) []) ∷ grant_from_memory 0 zeros E (new_transaction 0 (Rd 0 0))
     ++ Engine 0 (Settles 0 0 []) ∷ []
 
 -- It stores into word 3 without a word to the engine: its copy goes from E to M.
 abbrev pub silent_store : List Event
-silent_store = Issue 0 0 (Store 0 3 5) 0 ∷ []
+silent_store = Issue 0 0 (Store 0 3 (becomes 5)) 0 ∷ []
 
 -- Cache 1 loads the word. The owner keeps the block in O and fills it in S.
 abbrev pub second_load : Transaction
@@ -84,7 +84,7 @@ abbrev pub kept_in_o : Debt
 kept_in_o = record { cache = 0; way = 0; entry = record { tag = 0; state = O } }
 
 abbrev pub transfer_events : List Event
-transfer_events = Issue 1 0 (Load 0 3) 0 ∷ Engine 0 (Takes 1 (Rd 0 0) []) ∷ Engine 0 (GrantsByTransfer 0 0 O S second_load)
+transfer_events = Issue 1 0 (Load 0 (whole 3)) 0 ∷ Engine 0 (Takes 1 (Rd 0 0) []) ∷ Engine 0 (GrantsByTransfer 0 0 O S second_load)
     ∷ Command 0 ∷ Fill 1 0
     ∷ Engine 0 (PaysRequester (debt S second_load) (record (with_grant S second_load) { owner_debt = Some kept_in_o }))
     ∷ Engine 0 (PaysOwner kept_in_o (record (with_debts_paid second_load) { owner_debt = Some kept_in_o }))
@@ -99,23 +99,23 @@ abbrev pub written_block : MemoryBlock
 written_block = record { tag = 0; words = stored_words }
 
 abbrev pub write_back_events : List Event
-write_back_events = Issue 0 0 (Load 1 0) 0 ∷ Engine 0 (Takes 0 (Rd 1 0) []) ∷ Engine 0 (FlushesVictim third_load) ∷ Command 0
+write_back_events = Issue 0 0 (Load 1 (whole 0)) 0 ∷ Engine 0 (Takes 0 (Rd 1 0) []) ∷ Engine 0 (FlushesVictim third_load) ∷ Command 0
     ∷ Engine 0 (CollectsAnswer 0 0 (Some stored_words) [] (flush_asked third_load))
     ∷ Engine 0 (WritesBack written_block (flush_kept written_block third_load))
     ∷ Engine 0 (ReadsMemory third_load) ∷ Memory ∷ Memory ∷ grant_of_block 0 zeros E third_load ++ Engine 0 (Settles 0 1 []) ∷ []
 
 -- Cache 0 stores past the caches into word 3 of block 0: cache 1's copy is invalidated before the word is written.
 abbrev pub uc_store : Transaction
-uc_store = new_transaction 0 (UcWr 0 3 9)
+uc_store = new_transaction 0 (UcWr 0 3 (becomes 9))
 
 abbrev pub word_written : Transaction
 word_written = record uc_store { written = true }
 
 abbrev pub uncached_store : List Event
-uncached_store = Issue 0 0 (UcStore 0 3 9) 0 ∷ Engine 0 (Takes 0 (UcWr 0 3 9) [])
+uncached_store = Issue 0 0 (UcStore 0 3 (becomes 9)) 0 ∷ Engine 0 (Takes 0 (UcWr 0 3 (becomes 9)) [])
     ∷ Engine 0 (Invalidates false (1 ∷ []) uc_store) ∷ Command 1
-    ∷ Engine 0 (CollectsAck 1 0 [] (with_waiting (1 ∷ []) uc_store)) ∷ Engine 0 (WritesWord 0 3 9 uc_store)
-    ∷ Engine 0 (AnswersStore 0 3 9 word_written)
+    ∷ Engine 0 (CollectsAck 1 0 [] (with_waiting (1 ∷ []) uc_store)) ∷ Engine 0 (WritesWord 0 3 (becomes 9) uc_store)
+    ∷ Engine 0 (AnswersStore 0 3 (becomes 9) word_written)
     ∷ Command 0 ∷ Memory ∷ Engine 0 (Finishes (with_debts_paid word_written)) ∷ Engine 0 (Settles 0 0 []) ∷ []
 
 -- Cache 0 gives block 1 up.
@@ -135,7 +135,7 @@ abbrev pub last_words : ℕ → ℕ
 last_words = put stored_words 3 9
 
 abbrev pub uncached_load : List Event
-uncached_load = Issue 1 0 (UcLoad 0 3) 0 ∷ Engine 0 (Takes 1 (UcRd 0 3) []) ∷ Engine 0 (ReadsMemory uc_load) ∷ Memory
+uncached_load = Issue 1 0 (UcLoad 0 (whole 3)) 0 ∷ Engine 0 (Takes 1 (UcRd 0 3) []) ∷ Engine 0 (ReadsMemory uc_load) ∷ Memory
     ∷ Engine 0 (CollectsBlock 0 last_words [] (read_asked uc_load))
     ∷ Engine 0 (AnswersWord 0 3 last_words (read_got last_words uc_load)) ∷ Command 1
     ∷ Engine 0 (Finishes (with_debts_paid (read_got last_words uc_load))) ∷ Engine 0 (Settles 1 0 []) ∷ []
@@ -146,6 +146,7 @@ events = load_events ++ silent_store ++ transfer_events ++ write_back_events ++ 
 
 -- what the operations have answered after it all
 abbrev pub answers : List (ℕ × Completed)
-answers = answer 0 0 (Load 0 3) 0 ∷ answer 0 0 (Store 0 3 5) 0 ∷ answer 0 1 (Load 0 3) 5 ∷ answer 0 0 (Load 1 0) 0
-    ∷ answer 0 0 (UcStore 0 3 9) 0 ∷ answer 0 0 (Evict 1) 0
-    ∷ answer 0 1 (UcLoad 0 3) 9 ∷ []
+answers = answer 0 0 (Load 0 (whole 3)) 0 ∷ answer 0 0 (Store 0 3 (becomes 5)) 0 ∷ answer 0 1 (Load 0 (whole 3)) 5
+    ∷ answer 0 0 (Load 1 (whole 0)) 0
+    ∷ answer 0 0 (UcStore 0 3 (becomes 9)) 0 ∷ answer 0 0 (Evict 1) 0
+    ∷ answer 0 1 (UcLoad 0 (whole 3)) 9 ∷ []

@@ -92,40 +92,40 @@ is_free (Settling r t) = false
 
 -- While a cache waits for a block, for a Load it has no copy of it, and for a Store one at the Store's way alone, not in E or M.
 abbrev pub WaitingCopies : Op → ℕ → (ℕ → Entry) → Type 0
-WaitingCopies (Load t k) w h = (v : ℕ) → Holds (h v) t → ⊥
-WaitingCopies (Store t k n) w h = (v : ℕ) → Holds (h v) t → (v ≡ w) × (is_writable (h v).state ≡ false)
-WaitingCopies (UcLoad t k) w h = Unit {0}
-WaitingCopies (UcStore t k n) w h = Unit {0}
+WaitingCopies (Load t spot) w h = (v : ℕ) → Holds (h v) t → ⊥
+WaitingCopies (Store t k f) w h = (v : ℕ) → Holds (h v) t → (v ≡ w) × (is_writable (h v).state ≡ false)
+WaitingCopies (UcLoad t spot) w h = Unit {0}
+WaitingCopies (UcStore t k f) w h = Unit {0}
 WaitingCopies (Evict t) w h = Unit {0}
 
 -- the states that an operation may be granted
 abbrev pub op_suits : Op → Coh → Bool
-op_suits (Load t k) state = is_readable state
-op_suits (Store t k v) state = is_writable state
-op_suits (UcLoad t k) state = false
-op_suits (UcStore t k v) state = false
+op_suits (Load t spot) state = is_readable state
+op_suits (Store t k f) state = is_writable state
+op_suits (UcLoad t spot) state = false
+op_suits (UcStore t k f) state = false
 op_suits (Evict t) state = false
 
 -- the operations that StWake, UcBlk, and UcDone or Done complete
 abbrev pub is_store : Op → Bool
-is_store (Load t k) = false
-is_store (Store t k v) = true
-is_store (UcLoad t k) = false
-is_store (UcStore t k v) = false
+is_store (Load t spot) = false
+is_store (Store t k f) = true
+is_store (UcLoad t spot) = false
+is_store (UcStore t k f) = false
 is_store (Evict t) = false
 
 abbrev pub is_uc_load : Op → Bool
-is_uc_load (Load t k) = false
-is_uc_load (Store t k v) = false
-is_uc_load (UcLoad t k) = true
-is_uc_load (UcStore t k v) = false
+is_uc_load (Load t spot) = false
+is_uc_load (Store t k f) = false
+is_uc_load (UcLoad t spot) = true
+is_uc_load (UcStore t k f) = false
 is_uc_load (Evict t) = false
 
 abbrev pub ends_done : Op → Bool
-ends_done (Load t k) = false
-ends_done (Store t k v) = false
-ends_done (UcLoad t k) = false
-ends_done (UcStore t k v) = true
+ends_done (Load t spot) = false
+ends_done (Store t k f) = false
+ends_done (UcLoad t spot) = false
+ends_done (UcStore t k f) = true
 ends_done (Evict t) = true
 
 -- the grant on its way suits the operation: the state granted, or the kind of the answer

@@ -54,10 +54,10 @@ inv_command t InvAcked = []
 
 -- UcDone, or Done for an Evict
 abbrev pub uncached_done : Op → ToCache
-uncached_done (Load t k) = EvictDone t
-uncached_done (Store t k v) = EvictDone t
-uncached_done (UcLoad t k) = EvictDone t
-uncached_done (UcStore t k v) = UcDone t k
+uncached_done (Load t spot) = EvictDone t
+uncached_done (Store t k f) = EvictDone t
+uncached_done (UcLoad t spot) = EvictDone t
+uncached_done (UcStore t k f) = UcDone t k
 uncached_done (Evict t) = EvictDone t
 
 -- the command of a grant

@@ -9,7 +9,7 @@ use Rattle.bk_msg.specs.declared.row.Row.{Row}
 use Rattle.bk_msg.specs.declared.row.Row.TheVariants as rows
 use Rattle.bk_msg.specs.declared.row.Network.TheVariants as networks
 use Rattle.bk_msg.specs.Networks.{network_of}
-use Rattle.bk_machine.specs.Messages.{Op, Load, Store, UcLoad, UcStore, Evict, Request, Rd, Wr, UcRd, UcWr, EvictRequest, ToCache, Inv, StWb, StTr, Blk, StWake, UcBlk, UcDone, EvictDone, FillMessage, Response, InvAck, CohAck, Wb, NullWb, ToMemory, Read, Write, WriteWord, MemoryBlock}
+use Rattle.bk_machine.specs.Messages.{Op, whole, becomes, Load, Store, UcLoad, UcStore, Evict, Request, Rd, Wr, UcRd, UcWr, EvictRequest, ToCache, Inv, StWb, StTr, Blk, StWake, UcBlk, UcDone, EvictDone, FillMessage, Response, InvAck, CohAck, Wb, NullWb, ToMemory, Read, Write, WriteWord, MemoryBlock}
 use Rattle.bk_machine.specs.Words.{Completed}
 
 -- the words of a block by their places
@@ -18,10 +18,10 @@ words_of ws i = get_or ws i 0
 
 -- an operation, with its way group
 abbrev pub op_of : Shape → Operation → ℕ × Op
-op_of k (ops.Load addr) = (group_of k addr, Load (tag_at k addr) (word_of addr))
-op_of k (ops.Store addr value) = (group_of k addr, Store (tag_at k addr) (word_of addr) value)
-op_of k (ops.UcLoad addr) = (group_of k addr, UcLoad (tag_at k addr) (word_of addr))
-op_of k (ops.UcStore addr value) = (group_of k addr, UcStore (tag_at k addr) (word_of addr) value)
+op_of k (ops.Load addr) = (group_of k addr, Load (tag_at k addr) (whole (word_of addr)))
+op_of k (ops.Store addr value) = (group_of k addr, Store (tag_at k addr) (word_of addr) (becomes value))
+op_of k (ops.UcLoad addr) = (group_of k addr, UcLoad (tag_at k addr) (whole (word_of addr)))
+op_of k (ops.UcStore addr value) = (group_of k addr, UcStore (tag_at k addr) (word_of addr) (becomes value))
 op_of k (ops.Evict addr) = (group_of k addr, Evict (tag_at k addr))
 
 -- an entry of the history, with its way group
@@ -34,7 +34,7 @@ abbrev pub as_request : Shape → Row → Option (ℕ × Request)
 as_request k (rows.Rd _ _ way addr) = Some (group_of k addr, Rd (tag_at k addr) way)
 as_request k (rows.Wr _ _ way addr) = Some (group_of k addr, Wr (tag_at k addr) way)
 as_request k (rows.UcRd _ _ addr) = Some (group_of k addr, UcRd (tag_at k addr) (word_of addr))
-as_request k (rows.UcWr _ _ addr word) = Some (group_of k addr, UcWr (tag_at k addr) (word_of addr) word)
+as_request k (rows.UcWr _ _ addr word) = Some (group_of k addr, UcWr (tag_at k addr) (word_of addr) (becomes word))
 as_request k (rows.Evict _ _ way addr) = Some (group_of k addr, EvictRequest (tag_at k addr) way)
 as_request k m = None
 
@@ -66,7 +66,7 @@ as_response k m = None
 abbrev pub as_to_memory : Shape → Row → Option (ℕ × ToMemory)
 as_to_memory k (rows.Read _ _ addr) = Some (group_of k addr, Read (tag_at k addr))
 as_to_memory k (rows.Write _ _ addr words) = Some (group_of k addr, Write (tag_at k addr) (words_of words))
-as_to_memory k (rows.WriteWord _ _ addr word) = Some (group_of k addr, WriteWord (tag_at k addr) (word_of addr) word)
+as_to_memory k (rows.WriteWord _ _ addr word) = Some (group_of k addr, WriteWord (tag_at k addr) (word_of addr) (becomes word))
 as_to_memory k m = None
 
 abbrev pub as_block : Shape → Row → Option (ℕ × MemoryBlock)

@@ -6,34 +6,36 @@ use Rattle.bk_base.specs.declared.coh.Coh.TheVariants.{M}
 use Rattle.bk_base.specs.States.{is_dirty}
 use Rattle.bk_machine.specs.Tables.{put2}
 use Rattle.bk_machine.specs.Entries.{with_state, wiped_in_cache}
-use Rattle.bk_machine.specs.Messages.{Op, Load, Store, UcLoad, UcStore, Evict, ToCache, FillMessage, InvAck, CohAck, ToMemory, op_tag, request_of, answer_of}
+use Rattle.bk_machine.specs.Messages.{Op, Spot, Load, Store, UcLoad, UcStore, Evict, ToCache, FillMessage, InvAck, CohAck, ToMemory, op_tag, request_of, answer_of}
 use Rattle.bk_machine.specs.Words.{write_block, write_word}
 use Rattle.bk_machine.specs.World.{World}
 
 -- A step of a cache or of the memory, in one way group. Where it takes a channel's head, `rest` is what is left of the channel.
 pub data MachineStep : Type 0 where
   -- Issue: a Load or Store of a copy, a request, an Evict of a block that isn't there
-  LoadHits : (cache tag way word : ℕ) → MachineStep
-  StoreHits : (cache tag way word value : ℕ) → MachineStep
+  LoadHits : (cache tag way : ℕ) → Spot → MachineStep
+  StoreHits : (cache tag way word : ℕ) → (change : ℕ → ℕ) → MachineStep
   Asks : (cache way : ℕ) → Op → MachineStep
   EvictIdles : (cache tag : ℕ) → MachineStep
   -- Command: Inv, StWb, StTr; Blk for a Load and for a Store; StWake, UcBlk, UcDone, Done
   InvComes : (cache tag : ℕ) → (rest : List (ℕ × ToCache)) → MachineStep
   FlushComes : (cache way tag : ℕ) → Coh → (rest : List (ℕ × ToCache)) → MachineStep
   TransferComes : (cache way tag : ℕ) → Coh → (peer peer_way : ℕ) → Coh → (rest : List (ℕ × ToCache)) → MachineStep
-  BlockLoads : (cache tag way word : ℕ) → Coh → (ℕ → ℕ) → (rest : List (ℕ × ToCache)) → MachineStep
-  BlockStores : (cache tag way word value : ℕ) → Coh → (ℕ → ℕ) → (rest : List (ℕ × ToCache)) → MachineStep
-  WakeStores : (cache tag way word value : ℕ) → (rest : List (ℕ × ToCache)) → MachineStep
-  WordComes : (cache tag way word value : ℕ) → (rest : List (ℕ × ToCache)) → MachineStep
-  StoreComes : (cache tag way word value : ℕ) → (rest : List (ℕ × ToCache)) → MachineStep
+  BlockLoads : (cache tag way : ℕ) → Spot → Coh → (ℕ → ℕ) → (rest : List (ℕ × ToCache)) → MachineStep
+  BlockStores : (cache tag way word : ℕ) → (change : ℕ → ℕ) → Coh → (ℕ → ℕ) → (rest : List (ℕ × ToCache))
+      → MachineStep
+  WakeStores : (cache tag way word : ℕ) → (change : ℕ → ℕ) → (rest : List (ℕ × ToCache)) → MachineStep
+  WordComes : (cache tag way : ℕ) → Spot → (value : ℕ) → (rest : List (ℕ × ToCache)) → MachineStep
+  StoreComes : (cache tag way word : ℕ) → (change : ℕ → ℕ) → (rest : List (ℕ × ToCache)) → MachineStep
   EvictComes : (cache tag way : ℕ) → (rest : List (ℕ × ToCache)) → MachineStep
   -- Fill, for a Load and for a Store
-  FillLoads : (cache from tag way word : ℕ) → Coh → (ℕ → ℕ) → (rest : List (ℕ × FillMessage)) → MachineStep
-  FillStores : (cache from tag way word value : ℕ) → Coh → (ℕ → ℕ) → (rest : List (ℕ × FillMessage)) → MachineStep
+  FillLoads : (cache from tag way : ℕ) → Spot → Coh → (ℕ → ℕ) → (rest : List (ℕ × FillMessage)) → MachineStep
+  FillStores : (cache from tag way word : ℕ) → (change : ℕ → ℕ) → Coh → (ℕ → ℕ) → (rest : List (ℕ × FillMessage))
+      → MachineStep
   -- Memory
   MemoryReads : (tag : ℕ) → (rest : List (ℕ × ToMemory)) → MachineStep
   MemoryWrites : (tag : ℕ) → (ℕ → ℕ) → (rest : List (ℕ × ToMemory)) → MachineStep
-  MemoryWritesWord : (tag word value : ℕ) → (rest : List (ℕ × ToMemory)) → MachineStep
+  MemoryWritesWord : (tag word : ℕ) → (change : ℕ → ℕ) → (rest : List (ℕ × ToMemory)) → MachineStep
 
 -- a list without a number
 abbrev pub without : ℕ → List ℕ → List ℕ
@@ -69,12 +71,13 @@ with_command c xs world = record world { command = put world.command c xs }
 
 -- what a step of group g changes
 abbrev pub step_after : ℕ → MachineStep → World → World
--- a Load answers the copy's word
-step_after g (LoadHits c t v k) world = with_record g c (Load t k) (world.words g c v k) (with_way_first g c v world)
--- a Store writes its word, and the copy is in M
-step_after g (StoreHits c t v k n) world = with_record g c (Store t k n) 0 (record (with_way_first g c v world) {
+-- a Load answers its part of the copy's word
+step_after g (LoadHits c t v spot) world = with_record g c (Load t spot) (spot.of (world.words g c v spot.word))
+    (with_way_first g c v world)
+-- a Store changes its word, and the copy is in M
+step_after g (StoreHits c t v k f) world = with_record g c (Store t k f) 0 (record (with_way_first g c v world) {
   entries = put world.entries g (put2 (world.entries g) c v (with_state (world.entries g c v) M));
-  words = put world.words g (put2 (world.words g) c v (put (world.words g c v) k n));
+  words = put world.words g (put2 (world.words g) c v (put (world.words g c v) k (f (world.words g c v k))));
 })
 -- the operation is in progress with its way, and its request is sent
 step_after g (Asks c v op) world =
@@ -102,26 +105,28 @@ step_after g (TransferComes c v t y peer pv x rest) world = record world {
   command = put world.command c rest;
   fill = put2 world.fill peer c (world.fill peer c ++ (g, record { tag = t; way = pv; state = x; words = world.words g c v }) ∷ []);
 }
--- Blk, Fill: the entry becomes the block's; a Load answers its word; a Store writes its word and has M; CohAck
-step_after g (BlockLoads c t v k x ws rest) world =
-    with_command c rest (with_completion g c (Load t k) (ws k) (with_filled_entry g c v t x ws (with_way_first g c v world)))
-step_after g (BlockStores c t v k n x ws rest) world =
-    with_command c rest (with_completion g c (Store t k n) 0 (with_filled_entry g c v t M (put ws k n) (with_way_first g c v world)))
--- StWake: the copy takes the word and is in M; CohAck
-step_after g (WakeStores c t v k n rest) world =
-    with_command c rest (with_completion g c (Store t k n) 0
-    (with_filled_entry g c v t M (put (world.words g c v) k n) (with_way_first g c v world)))
+-- Blk, Fill: the entry becomes the block's; a Load answers its part; a Store changes its word and has M; CohAck
+step_after g (BlockLoads c t v spot x ws rest) world =
+    with_command c rest (with_completion g c (Load t spot) (spot.of (ws spot.word))
+    (with_filled_entry g c v t x ws (with_way_first g c v world)))
+step_after g (BlockStores c t v k f x ws rest) world =
+    with_command c rest (with_completion g c (Store t k f) 0
+    (with_filled_entry g c v t M (put ws k (f (ws k))) (with_way_first g c v world)))
+-- StWake: the Store changes the copy's word, and the copy is in M; CohAck
+step_after g (WakeStores c t v k f rest) world =
+    with_command c rest (with_completion g c (Store t k f) 0
+    (with_filled_entry g c v t M (put (world.words g c v) k (f (world.words g c v k))) (with_way_first g c v world)))
 -- UcBlk, UcDone, Done: the operation completes; CohAck
-step_after g (WordComes c t v k n rest) world = with_command c rest (with_completion g c (UcLoad t k) n world)
-step_after g (StoreComes c t v k n rest) world = with_command c rest (with_completion g c (UcStore t k n) 0 world)
+step_after g (WordComes c t v spot n rest) world = with_command c rest (with_completion g c (UcLoad t spot) (spot.of n) world)
+step_after g (StoreComes c t v k f rest) world = with_command c rest (with_completion g c (UcStore t k f) 0 world)
 step_after g (EvictComes c t v rest) world = with_command c rest (with_completion g c (Evict t) 0 world)
-step_after g (FillLoads c o t v k x ws rest) world =
-    record (with_completion g c (Load t k) (ws k) (with_filled_entry g c v t x ws (with_way_first g c v world))) {
+step_after g (FillLoads c o t v spot x ws rest) world =
+    record (with_completion g c (Load t spot) (spot.of (ws spot.word)) (with_filled_entry g c v t x ws (with_way_first g c v world))) {
       fill = put2
           world.fill c o rest;
     }
-step_after g (FillStores c o t v k n x ws rest) world =
-    record (with_completion g c (Store t k n) 0 (with_filled_entry g c v t M (put ws k n) (with_way_first g c v world))) {
+step_after g (FillStores c o t v k f x ws rest) world =
+    record (with_completion g c (Store t k f) 0 (with_filled_entry g c v t M (put ws k (f (ws k))) (with_way_first g c v world))) {
       fill = put2
           world.fill c o rest;
     }
@@ -130,5 +135,5 @@ step_after g (MemoryReads t rest) world =
     record world { memout = rest; memin = world.memin ++ (g, record { tag = t; words = world.memory g t }) ∷ [] }
 step_after g (MemoryWrites t ws rest) world =
     record world { memout = rest; memory = put world.memory g (write_block (world.memory g) t ws) }
-step_after g (MemoryWritesWord t k n rest) world =
-    record world { memout = rest; memory = put world.memory g (write_word (world.memory g) t k n) }
+step_after g (MemoryWritesWord t k f rest) world =
+    record world { memout = rest; memory = put world.memory g (write_word (world.memory g) t k f) }

@@ -33,10 +33,10 @@ flush_away (FlushDone o u (Some ws)) t = t == u
 
 -- an uncached store into the word
 abbrev pub stores_at : Op → ℕ → ℕ → Bool
-stores_at (Load u j) t number = false
-stores_at (Store u j v) t number = false
-stores_at (UcLoad u j) t number = false
-stores_at (UcStore u j v) t number = t == u && number == j
+stores_at (Load u spot) t number = false
+stores_at (Store u j f) t number = false
+stores_at (UcLoad u spot) t number = false
+stores_at (UcStore u j f) t number = t == u && number == j
 stores_at (Evict u) t number = false
 
 -- a grant on its way has the word's latest value, or is to say that it was written: a Fill in M or O, a UcDone
@@ -66,7 +66,7 @@ abbrev pub request_at : Request → ℕ → ℕ → Bool
 request_at (Rd u w) t number = false
 request_at (Wr u w) t number = false
 request_at (UcRd u j) t number = false
-request_at (UcWr u j v) t number = t == u && number == j
+request_at (UcWr u j f) t number = t == u && number == j
 request_at (EvictRequest u w) t number = false
 
 -- the transaction has the word's latest value: it keeps the block, or has written the word and not yet answered
@@ -87,13 +87,13 @@ FlushValues (FlushSent o w u x) h v = Unit {0}
 FlushValues (FlushDone o u None) h v = Unit {0}
 FlushValues (FlushDone o u (Some ws)) h v = SameWords ws (v u) × NoWriter h u
 
--- an uncached store that is about to complete: effective memory a has its value, and no cache has a copy
-abbrev pub StoredAt : Op → (ℕ → ℕ → Entry) → (ℕ → ℕ → ℕ) → Type 0
-StoredAt (Load u j) h a = Unit {0}
-StoredAt (Store u j v) h a = Unit {0}
-StoredAt (UcLoad u j) h a = Unit {0}
-StoredAt (UcStore u j v) h a = (a u j ≡ v) × NoCopy h u
-StoredAt (Evict u) h a = Unit {0}
+-- an uncached store that is about to complete: effective memory a has what it makes of the latest v, and no cache has a copy
+abbrev pub StoredAt : Op → (ℕ → ℕ → Entry) → (ℕ → ℕ → ℕ) → (ℕ → ℕ → ℕ) → Type 0
+StoredAt (Load u spot) h v a = Unit {0}
+StoredAt (Store u j f) h v a = Unit {0}
+StoredAt (UcLoad u spot) h v a = Unit {0}
+StoredAt (UcStore u j f) h v a = (a u j ≡ f (v u j)) × NoCopy h u
+StoredAt (Evict u) h v a = Unit {0}
 
 -- a grant on its way has the latest words v; a word for a UcLoad is the latest, and no cache may write it
 abbrev pub FlightValues : Flight → InProgress → (ℕ → ℕ → Entry) → (ℕ → ℕ → ℕ) → (ℕ → ℕ → ℕ) → Type 0
@@ -102,7 +102,7 @@ FlightValues ByWake b h v a = Unit {0}
 FlightValues (ByTransfer o ow y x) b h v a = Unit {0}
 FlightValues (ByFill o x ws) b h v a = SameWords ws (v (op_tag b.op))
 FlightValues (ByWord n) b h v a = (n ≡ v (op_tag b.op) (op_word b.op)) × NoWriter h (op_tag b.op)
-FlightValues ByDone b h v a = StoredAt b.op h a
+FlightValues ByDone b h v a = StoredAt b.op h v a
 
 -- the same by phase
 abbrev pub PhaseValues : Phase → (ℕ → ℕ → Entry) → (ℕ → ℕ → ℕ) → (ℕ → ℕ → ℕ) → Type 0
@@ -123,20 +123,20 @@ ReadValues NotRead t h v = Unit {0}
 ReadValues ReadAsked t h v = AllLight h t
 ReadValues (Got ws) t h v = SameWords ws (v t) × AllLight h t
 
--- once the word was written, effective memory has it and no cache has a copy
-abbrev pub WrittenValues : Bool → Request → (ℕ → ℕ → Entry) → (ℕ → ℕ → ℕ) → Type 0
-WrittenValues false r h a = Unit {0}
-WrittenValues true (Rd t w) h a = ⊥
-WrittenValues true (Wr t w) h a = ⊥
-WrittenValues true (UcRd t k) h a = ⊥
-WrittenValues true (UcWr t k v) h a = (a t k ≡ v) × NoCopy h t
-WrittenValues true (EvictRequest t w) h a = ⊥
+-- once the word was changed, effective memory has what became of the latest and no cache has a copy
+abbrev pub WrittenValues : Bool → Request → (ℕ → ℕ → Entry) → (ℕ → ℕ → ℕ) → (ℕ → ℕ → ℕ) → Type 0
+WrittenValues false r h v a = Unit {0}
+WrittenValues true (Rd t w) h v a = ⊥
+WrittenValues true (Wr t w) h v a = ⊥
+WrittenValues true (UcRd t k) h v a = ⊥
+WrittenValues true (UcWr t k f) h v a = (a t k ≡ f (v t k)) × NoCopy h t
+WrittenValues true (EvictRequest t w) h v a = ⊥
 
 -- the values that an ungranted transaction has
 pub record TransactionValues (x : Transaction) (h : ℕ → ℕ → Entry) (v a : ℕ → ℕ → ℕ) : Type 0 where
   pub kept : KeptValues x.write_back h v
   pub read : ReadValues x.reading (request_tag x.request) h v
-  pub written : WrittenValues x.written x.request h a
+  pub written : WrittenValues x.written x.request h v a
 
 -- the same of a transaction, where there is one that isn't granted
 abbrev pub OpenValues : Option Transaction → (ℕ → ℕ → Entry) → (ℕ → ℕ → ℕ) → (ℕ → ℕ → ℕ) → Type 0
@@ -159,14 +159,14 @@ abbrev pub read_count : List ToMemory → ℕ
 read_count [] = 0
 read_count (Read t ∷ ms) = suc (read_count ms)
 read_count (Write t ws ∷ ms) = read_count ms
-read_count (WriteWord t k v ∷ ms) = read_count ms
+read_count (WriteWord t k f ∷ ms) = read_count ms
 
 -- each Read is of t, and finds these words
 abbrev pub ReadsFor : ℕ → (ℕ → ℕ) → (ℕ → ℕ → ℕ) → List ToMemory → Type 0
 ReadsFor t ws m [] = Unit {0}
 ReadsFor t ws m (Read u ∷ ms) = (u ≡ t) × SameWords (m t) ws × ReadsFor t ws m ms
 ReadsFor t ws m (Write u xs ∷ ms) = ReadsFor t ws (write_block m u xs) ms
-ReadsFor t ws m (WriteWord u k n ∷ ms) = ReadsFor t ws (write_word m u k n) ms
+ReadsFor t ws m (WriteWord u k f ∷ ms) = ReadsFor t ws (write_word m u k f) ms
 
 -- each Block is of t, with these words
 abbrev pub BlocksFor : ℕ → (ℕ → ℕ) → List MemoryBlock → Type 0
