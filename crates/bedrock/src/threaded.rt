@@ -163,28 +163,54 @@ fn each_agent_has_a_thread(rt: HostRuntime) -> Result<(), Fail> {
     Ok(())
 }
 
-#[test]
-fn threaded_reports_are_those_of_their_own_events(rt: HostRuntime) -> Result<(), Fail> {
-    let alloc = rt.alloc();
+/// Of a hundred drawn traces, the seed of the first whose threaded replay under a protocol didn't end with status 0, complete, and with
+/// exactly the report of the list of events that its outcome has. None where all did.
+fn first_other<R: Threads + Wait + Sync>(
+    rt: &R,
+    alloc: Global,
+    protocol: &str,
+) -> Result<Option<u32>, Fail> {
     let shapes = [(1, 1, 1), (2, 1, 1), (2, 4, 2), (3, 2, 1), (4, 1, 2)];
-    for name in ["ei", "msi", "mesi", "moesif"] {
-        let bytes = image_named(alloc, name)?;
-        let image = read_image(alloc, &bytes)?;
-        for seed in 1..26u32 {
-            let (caches, sets, ways) = shapes[(seed % 5) as usize];
-            let trace = generate(alloc, seed, Config::make(caches, sets, ways)?, 40)?;
-            let text = write_trace(alloc, &trace)?;
-            let text = std::str::from_utf8(&text)?;
-            let mut shelf = shelf_of(alloc, &bytes, text)?;
-            let mut sink = sink_of(alloc);
-            let words = words(alloc)?;
-            let outcome = threaded(&rt, alloc, &words, &mut shelf, &mut sink, &Free);
-            assert_eq!(rt; outcome.status, OK, "{name} {seed}");
-            let due = report(alloc, &image, &trace, &outcome.events)?;
-            assert!(rt; sink.bytes() == due.as_slice(), "{name} {seed}");
-            assert!(rt; due.ends_with("end rested\n".as_bytes()), "{name} {seed}");
+    let bytes = image_named(alloc, protocol)?;
+    let image = read_image(alloc, &bytes)?;
+    for seed in 1..101u32 {
+        let (caches, sets, ways) = shapes[(seed % 5) as usize];
+        let trace = generate(alloc, seed, Config::make(caches, sets, ways)?, 8)?;
+        let text = write_trace(alloc, &trace)?;
+        let text = std::str::from_utf8(&text)?;
+        let mut shelf = shelf_of(alloc, &bytes, text)?;
+        let mut sink = sink_of(alloc);
+        let outcome = threaded(rt, alloc, &words(alloc)?, &mut shelf, &mut sink, &Free);
+        let due = report(alloc, &image, &trace, &outcome.events)?;
+        let complete = due.ends_with("end rested\n".as_bytes());
+        if outcome.status != OK || !complete || sink.bytes() != due.as_slice() {
+            return Ok(Some(seed));
         }
     }
+    Ok(None)
+}
+
+#[test]
+fn a_hundred_threaded_replays_of_ei(rt: HostRuntime) -> Result<(), Fail> {
+    assert_eq!(rt; first_other(&rt, rt.alloc(), "ei")?, None);
+    Ok(())
+}
+
+#[test]
+fn a_hundred_threaded_replays_of_msi(rt: HostRuntime) -> Result<(), Fail> {
+    assert_eq!(rt; first_other(&rt, rt.alloc(), "msi")?, None);
+    Ok(())
+}
+
+#[test]
+fn a_hundred_threaded_replays_of_mesi(rt: HostRuntime) -> Result<(), Fail> {
+    assert_eq!(rt; first_other(&rt, rt.alloc(), "mesi")?, None);
+    Ok(())
+}
+
+#[test]
+fn a_hundred_threaded_replays_of_moesif(rt: HostRuntime) -> Result<(), Fail> {
+    assert_eq!(rt; first_other(&rt, rt.alloc(), "moesif")?, None);
     Ok(())
 }
 

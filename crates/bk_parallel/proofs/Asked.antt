@@ -29,7 +29,7 @@ module _ (policy : List WayView → ℕ → Type 0) (k : Shape) (program : List 
       → IsDue policy k operations (part_of k s (agent_of k event)) event → IsNext s operations event × IsAsked policy k s event
   due-both s (Issue c way op) enabled due =
       subst (λ (part : Part). IsDue policy k operations part (Issue c way op))
-          (cache-part k s c (issue-cache k program s c way op enabled)) due
+      (cache-part k s c (issue-cache k program s c way op enabled)) due
   due-both s (Command c) enabled due = (tt, tt)
   due-both s (Fill to from) enabled due = (tt, tt)
   due-both s Memory enabled due = (tt, tt)

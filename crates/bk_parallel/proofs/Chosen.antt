@@ -16,7 +16,7 @@ use Rattle.bk_parallel.specs.Joined.{IsBetween, AreBetween, ending_at, beginning
 -- PAIRS
 
 module _ {X : Type 0} (P : X → X → Type 0) where
-  pairs-nil : AllPairs P []
+  pub pairs-nil : AllPairs P []
   pairs-nil i j d before within = absurd (omega arith)
 
   first-of : (x : X) (xs : List X) → AllPairs P (x ∷ xs) → All (P x) xs

@@ -179,7 +179,7 @@ module _ (k : Shape) (agents : List Agent) (channel : Channel) (team : IsTeam k 
       sent = nothing;
       inlets = λ n. inlets-added k (giving_outlets agents i d more) j e others end-in inlet (ends_at k channel) also to n
           ∙ ap (λ (xs : List Inlet). if ends_at k channel == n then xs ++ inlet ∷ [] else xs)
-              (outlets-inlets k agents i d more begin-in n);
+          (outlets-inlets k agents i d more begin-in n);
       outlets = λ n. inlets-outlets k (giving_outlets agents i d more) j e others end-in n
           ∙ outlets-added k agents i d more begin-in outlet (begins_at k channel) added from n;
     }

@@ -1,5 +1,6 @@
 pub mod Appending
 pub mod Asked
+pub mod Beginnings
 pub mod Chosen
 pub mod Emptying
 pub mod Giving

@@ -93,7 +93,7 @@ module _ {End : Type 0} (channel_at : End → Channel) (packets : End → List w
 
 joined-next : (k : Shape) (opened : List Channel) (channel : Channel) (inlet : Inlet) (outlet : Outlet) (queues : Channel → TableId)
     (old new : List Agent) → Opens k channel inlet outlet old new → All (λ other. other ≢ channel) opened
-        → AreJoined k opened queues old
+    → AreJoined k opened queues old
     → AreJoined k (opened ++ channel ∷ []) (with_queue channel inlet.receiver.channel queues) new
 joined-next k opened channel inlet outlet queues old new opens differ joined = record {
   inlets = λ n agent. ends-joined inlet_channel inlet_table (λ c. ends_at k c == n) opened channel (inlets_at old n)

@@ -14,6 +14,7 @@ use Rattle.bk_parallel.specs.declared.sides.Ending.{Ending}
 use Rattle.bk_parallel.specs.declared.sides.Ending.TheVariants.{Idle, OutOfMemory}
 use Rattle.bk_parallel.specs.Rounds.{IsReady, HasWorked, CanWork, EndsRound}
 use Rattle.bk_parallel.specs.Teams.{IsTeam}
+use Rattle.bk_parallel.proofs.Beginnings.{can-begin}
 
 module _ {X : Type 0} (agent_of : X → Agent) (ending_of : X → Ending) where
   -- A seat's round has not run out of memory, and where all are said to be idle it ended idle.
@@ -56,7 +57,7 @@ module _ {X : Type 0} (agent_of : X → Agent) (ending_of : X → Ending) where
   all-seen all rest many agents idle seen none =
       let empty : rest ≡ [] = nil_from_length rest (sym seen.count ∙ none) in
       let whole : seen.before ≡ all = sym (append-nil seen.before) ∙ ap (λ (xs : List X). seen.before ++ xs) (sym empty)
-          ∙ seen.split in
+      ∙ seen.split in
       (seen.taken ∙ ap (map agent_of) whole, subst (All (HasEnded idle)) whole seen.ended)
 
   -- THE ROUND
@@ -82,12 +83,7 @@ module _ {X : Type 0} (agent_of : X → Agent) (ending_of : X → Ending) where
       → CanWork k (agent_of (get_or seats n d))
   can-work k seats agents same team ready n d l =
       let is = agent-in seats agents n (get_or seats n d) same (slice_get-get_or seats n d l) in
-      let member = team.each n (agent_of (get_or seats n d)) is in
-      record {
-        number = omega (arith, member.number, slice_get_within agents n (agent_of (get_or seats n d)) is, team.count);
-        config = member.config;
-        ready = ready n (agent_of (get_or seats n d)) is;
-      }
+      can-begin k agents team ready n (agent_of (get_or seats n d)) is
 
   pub has-worked : (task : Task) (seats after : List X) (agents : List Agent) (result : Result (Vec Agent Global × Bool) AllocError)
       → map agent_of seats ≡ agents → length after ≡ length seats

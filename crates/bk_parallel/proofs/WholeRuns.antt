@@ -20,7 +20,7 @@ use Rattle.bk_parallel.proofs.Asked.{due-asked, due-in_order}
 
 -- AT THE OPENING
 
-none-waits : (k : Shape) (channel : Channel) → channel_of (opening k) channel ≡ []
+pub none-waits : (k : Shape) (channel : Channel) → channel_of (opening k) channel ≡ []
 none-waits k (channels.Request from) = refl
 none-waits k (channels.Command to) = refl
 none-waits k (channels.Fill to from) = refl
@@ -38,6 +38,9 @@ none-held k n = by (ltb n k.caches) (eqb n (engine_number k)) (eqb n (memory_num
     by false false true = refl
     by false false false = refl
 
+pub none-holds : (k : Shape) (n : ℕ) → HoldsFirst (part_of k (opening k) n) (heads_of (opening k))
+none-holds k n head channel held popped = let none = none-held k n in absurd (cc (none, held))
+
 pub stand-opening : (k : Shape) (agents : List Agent) → IsTeam k agents → AreApart agents
     → ((n : ℕ) → state_at k agents n ≡ opening k) → ((n : ℕ) → entries_at agents n ≡ []) → Stand k (opening k) agents
 stand-opening k agents team apart states entries = record {
@@ -46,8 +49,7 @@ stand-opening k agents team apart states entries = record {
   parts = λ n l. ap (λ (t : State). part_of k t n) (states n);
   inboxes = λ channel l. ap (λ (t : State). channel_of t channel) (states (ends_at k channel));
   sent = λ n l channel outward. ap (λ (t : State). channel_of t channel) (states n) ∙ none-waits k channel;
-  holds = λ n l. subst (λ (t : State). HoldsFirst (part_of k t n) (heads_of t)) (sym (states n))
-      (λ head channel held popped. let none = none-held k n in absurd (cc (none, held)));
+  holds = λ n l. subst (λ (t : State). HoldsFirst (part_of k t n) (heads_of t)) (sym (states n)) (none-holds k n);
   entries = entries;
 }
 

@@ -37,7 +37,7 @@ back xs now new n is many same =
 module _ (task : Task) (idle : Bool) (opened worked : List Agent) (team : IsTeam task.config opened)
     (count : length worked ≡ length opened)
     (work : (n : ℕ) (old new : Agent) → slice_get opened n ≡ Some old → slice_get worked n ≡ Some new
-        → HasWorked task idle old new)
+    → HasWorked task idle old new)
   where
     abbrev k : Shape
     k = task.config
@@ -142,7 +142,7 @@ module _ (task : Task) (s : State) (idle last : Bool) (list : List Channel) (old
     (journals : List Journal) (events : List Event) (between : AreBetween task.config list) (stand : Stand task.config s old)
     (opens : Opens task.config list old opened) (count : length worked ≡ length opened)
     (work : (n : ℕ) (was new : Agent) → slice_get opened n ≡ Some was → slice_get worked n ≡ Some new
-        → HasWorked task idle was new)
+    → HasWorked task idle was new)
     (closes : Closes task.config worked shut) (empties : Empties task.config shut emptied journals) (merge : IsMerge journals events)
   where
     abbrev left : Channels Channel Row

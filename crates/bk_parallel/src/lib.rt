@@ -11,3 +11,6 @@ mod sides;
 mod team;
 
 pub use run::run_agents;
+
+#[cfg(test)]
+mod tests;
