@@ -25,7 +25,7 @@ use Rattle.bk_asm.specs.Programs.{Statement}
 use Rattle.bk_asm.specs.Reading.{Draft, has_begun, nothing_read, row_at, place_of, parts, fresh_label, rest_at, labelled_at, line_at, with_label, with_know, know_line, with_statement, lines_at, forms_at, image_of, image_at}
 use Rattle.bk_asm.specs.Writing.{goes_to, label_text, label_line, know_line_text, form_line, places_text}
 use Rattle.bk_asm.proofs.Texts.{read_line, goes_on}
-use Rattle.bk_asm.proofs.Sentences.{marked, row, word_alone, word_quiet, spaced_quiet, row_is, line_again}
+use Rattle.bk_asm.proofs.Sentences.{place_append, marked, row, word_alone, word_quiet, spaced_quiet, row_is, line_again}
 use Rattle.bk_asm.proofs.Computed.{IsPlaceLabel, label_again}
 use Rattle.bk_asm.proofs.OperandsAgain.{statement_of, form_words}
 use Rattle.bk_asm.proofs.FormAgain.{form_bytes, form_is_words, form_bytes_are, form_read}
@@ -121,7 +121,8 @@ label_step x p n front left back d rest lt h = elim (tested (list_any (goes_to p
         draft = with_label (Some name) d;
         line = n + 1;
         reads = ap (λ t. lines_at d n (lines t)) text ∙ ap (lines_at d n) (line_again w rest (word_quiet w (label_again p lt).defined))
-            ∙ goes_on d n w (lines rest) (record { limit = None; label = Some name; know = None; does = None }) (label_line_read d p n lt none);
+            ∙ goes_on d n w (lines rest) (record { limit = None; label = Some name; know = None; does = None })
+            (label_line_read d p n lt none);
         limit = refl;
         statements = refl;
         knows = refl;
@@ -151,7 +152,8 @@ know_step (Some sets) d n rest h none =
     let full = nat_le 256 (length d.statements) in
     let quiet = spaced_quiet (know_words sets) (know_is_words sets mask) in
     let read : read_line d n (know_bytes sets) ≡ Ok (parts (Some sets) None) =
-    ap (λ (o : Option Sets). line_at d.labels (has_begun d) full (is_some o) n (row_at (know_bytes sets)) (row_at (know_bytes sets)).words) none
+    ap (λ (o : Option Sets). line_at d.labels (has_begun d) full (is_some o) n (row_at (know_bytes sets))
+    (row_at (know_bytes sets)).words) none
     ∙ know_read sets d.labels (has_begun d) full n mask in (
       n + 1,
       ap (λ t. lines_at d n (lines (t ++ rest))) (know_bytes_are sets) ∙ ap (lines_at d n) (line_again (know_bytes sets) rest quiet)
@@ -168,7 +170,8 @@ form_step f d n rest range few =
     let room : nat_le 256 (length d.statements) ≡ false = grind (arith, nat_tests, few) in
     let quiet = spaced_quiet (form_words f) (form_is_words f range) in
     let read : read_line d n (form_bytes f) ≡ Ok (parts None (Some statement)) =
-    ap (λ full. line_at d.labels (has_begun d) full (is_some d.know) n (row_at (form_bytes f)) (row_at (form_bytes f)).words) room ∙ r.1 in (
+    ap (λ full. line_at d.labels (has_begun d) full (is_some d.know) n (row_at (form_bytes f)) (row_at (form_bytes f)).words) room
+    ∙ r.1 in (
       statement,
       (n, r.0, refl),
       ap (λ t. lines_at d n (lines (t ++ rest))) (form_bytes_are f range) ∙ ap (lines_at d n) (line_again (form_bytes f) rest quiet)
@@ -316,10 +319,6 @@ pub record NextPlace (x : Parts) (p n : ℕ) (front left : List Form) (f : Form)
   pub reads : lines_at d n (lines (places_text x p (f ∷ left))) ≡ lines_at draft line (lines (places_text x (p + 1) left))
   pub stands : Stands x (p + 1) (front ++ f ∷ []) left back draft
 
--- the parts of what stands at a place, and what follows
-pub place_append : (a b bytes rest : List ℕ) → (a ++ b ++ bytes) ++ rest ≡ a ++ (b ++ (bytes ++ rest))
-place_append a b bytes rest = simp append_assoc
-
 -- know lines, of which one more was read
 knows_kept : (ks front : List Line) (back more : List Line) (line : List Line) → ks ≡ front ++ back → back ≡ line ++ more
     → ks ≡ (front ++ line) ++ more
@@ -346,7 +345,8 @@ knows_same ks ks' more a b o o' e f g = rw (e, f, g) refl
 -- one more instruction, with its know line and its label
 stands_next : (x : Parts) (p : ℕ) (front left : List Form) (f : Form) (back : List Line) (d two : Draft) (statement : Statement)
     → (h : Stands x p front (f ∷ left) back d)
-    → two.limit ≡ d.limit → two.statements ≡ d.statements → two.knows ≡ d.knows → two.know ≡ known x.knows p → AreLabels x.instrs (p + 1) two.labels
+    → two.limit ≡ d.limit → two.statements ≡ d.statements → two.knows ≡ d.knows → two.know ≡ known x.knows p
+    → AreLabels x.instrs (p + 1) two.labels
     → IsOf statement f
     → (b : Behind (length x.instrs) p back)
     → Stands x (p + 1) (front ++ f ∷ []) left b.more (with_statement (Some statement) two)

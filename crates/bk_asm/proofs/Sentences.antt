@@ -134,6 +134,10 @@ spaced_quiet (w ∷ ws) e =
     let t = and_parts (is_word w) (list_all is_word ws) e in
     all_append is_quiet w (spaced ws) (word_quiet w t.0) (spaced_quiet ws t.1)
 
+-- three texts, and what follows
+pub place_append : (a b bytes rest : List ℕ) → (a ++ b ++ bytes) ++ rest ≡ a ++ (b ++ (bytes ++ rest))
+place_append a b bytes rest = simp append_assoc
+
 -- ---- lines
 
 -- what is left of a line without a comment

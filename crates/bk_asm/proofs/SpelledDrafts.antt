@@ -58,7 +58,8 @@ lines_follow d line (text ∷ texts) e h =
     let known = is_some d.know in
     let read = line_at d.labels (has_begun d) full known line (row_at text) (row_at text).words in
     let one = bound (on_line line read) (λ parts. lines_at (after parts d) (line + 1) texts) e h in
-    let l = line_spelled d.labels (has_begun d) full known line (row_at text) (row_at text).words one.0 (on_line_is line read one.0 one.1) in
+    let l = line_spelled d.labels (has_begun d) full known line (row_at text) (row_at text).words one.0
+    (on_line_is line read one.0 one.1) in
     let more = lines_follow (after one.0 d) (line + 1) texts e one.2 in (
       record { limit = l.limit; label = l.label; content = l.content } ∷ more.0,
       (
@@ -243,7 +244,8 @@ allowed_led : (limit : Option ℕ) (d : Draft) (c : Stated) → IsAllowed (nat_l
 allowed_led None d c h = h
 allowed_led (Some limit) d c h = h
 
-fresh_led : (limit : Option ℕ) (d : Draft) (label : Option (List ℕ)) → IsFresh d.labels label → IsFresh (with_limit limit d).labels label
+fresh_led : (limit : Option ℕ) (d : Draft) (label : Option (List ℕ)) → IsFresh d.labels label
+    → IsFresh (with_limit limit d).labels label
 fresh_led None d label h = h
 fresh_led (Some limit) d label h = h
 

@@ -229,14 +229,22 @@ no_know (Some x) e = absurd cc
 made_by : (a b test : Bool) (last : ℕ) (d : Draft) (image : Parts) → d.waits ≡ a → is_some d.know ≡ b
     → (length d.statements == 0) ≡ test
     → cond (a || b) (Err (bad last (at 1 kinds.WithoutInstruction))) (cond test (Err (bad last (at 1 kinds.NoInstruction)))
-    (forms_at d.labels d.statements >>= λ forms. Ok (record { version = version_of d.limit; limit = limit_or_first d.limit; instrs = forms; knows = d.knows }))) ≡ Ok image
+    (forms_at d.labels d.statements >>= λ forms. Ok (record {
+      version = version_of d.limit;
+      limit = limit_or_first d.limit;
+      instrs =
+          forms;
+      knows = d.knows;
+    }))) ≡ Ok image
     → IsMade d image
 made_by true b test last d image w k n e = absurd cc
 made_by false true test last d image w k n e = absurd cc
 made_by false false true last d image w k n e = absurd cc
 made_by false false false last d image w k n e =
-    let one = bound (forms_at d.labels d.statements) (λ forms. Ok (record { version = version_of d.limit; limit = limit_or_first d.limit; instrs = forms; knows = d.knows })) image e in
-    let same = ok_is (record { version = version_of d.limit; limit = limit_or_first d.limit; instrs = one.0; knows = d.knows }) image one.2 in
+    let one = bound (forms_at d.labels d.statements) (λ forms. Ok
+    (record { version = version_of d.limit; limit = limit_or_first d.limit; instrs = forms; knows = d.knows })) image e in
+    let same = ok_is (record { version = version_of d.limit; limit = limit_or_first d.limit; instrs = one.0; knows = d.knows })
+    image one.2 in
     record {
       waits = w;
       know = no_know d.know k;

@@ -32,7 +32,12 @@ pub(crate) fn caches_at<'a>(
     column: u64,
     row: &mut TextLine<'a>,
 ) -> Result<Line<'a>, At>
-    ensures value { LineGives (λ l. record { limit = l.limit; label = option_map (λ w. w.now) l.label; know = l.know; does = l.does }) result
+    ensures value { LineGives (λ l. record {
+      limit = l.limit;
+      label = option_map (λ w. w.now) l.label;
+      know = l.know;
+      does = l.does;
+    }) result
         (caches_at begun column row.old row.old.words) }
     ensures nothing { IfOk result (λ l. l.does ≡ None) }
     ensures range { IfOk result (λ l. IfSome l.limit (λ n. (1 ≤ n) × (n ≤ 16))) }

@@ -48,7 +48,12 @@ fn content_at<'a>(
     word: Placed<'a>,
     row: &mut TextLine<'a>,
 ) -> Result<Line<'a>, At>
-    ensures value { LineGives (λ l. record { limit = l.limit; label = option_map (λ w. w.now) l.label; know = l.know; does = l.does }) result
+    ensures value { LineGives (λ l. record {
+      limit = l.limit;
+      label = option_map (λ w. w.now) l.label;
+      know = l.know;
+      does = l.does;
+    }) result
         (content_at before.full before.known line (record { column = word.entry.column; word = word.entry.word.now }) row.old) }
     ensures room { IfOk result (λ l. IfSome l.does (λ _. before.full ≡ false)) }
     ensures plain { IfOk result (λ l. l.limit ≡ None) }
@@ -80,7 +85,12 @@ fn content_at<'a>(
 
 /// A line without words.
 fn empty_at<'a>(row: &mut TextLine<'a>) -> Result<Line<'a>, At>
-    ensures value { LineGives (λ l. record { limit = l.limit; label = option_map (λ w. w.now) l.label; know = l.know; does = l.does }) result
+    ensures value { LineGives (λ l. record {
+      limit = l.limit;
+      label = option_map (λ w. w.now) l.label;
+      know = l.know;
+      does = l.does;
+    }) result
         (unless (fault_behind kinds.Byte kinds.Extra row.old.words row.old.bad) (parts None None)) }
     ensures nothing { IfOk result (λ l. l.does ≡ None) }
     ensures plain { IfOk result (λ l. l.limit ≡ None) }
@@ -99,7 +109,12 @@ fn empty_at<'a>(row: &mut TextLine<'a>) -> Result<Line<'a>, At>
 /// What stands behind a label.
 #[tactic(auto, unfolding(crate::specs::Reading::rest_at))]
 fn rest_at<'a>(before: Before, line: u64, row: &mut TextLine<'a>) -> Result<Line<'a>, At>
-    ensures value { LineGives (λ l. record { limit = l.limit; label = option_map (λ w. w.now) l.label; know = l.know; does = l.does }) result
+    ensures value { LineGives (λ l. record {
+      limit = l.limit;
+      label = option_map (λ w. w.now) l.label;
+      know = l.know;
+      does = l.does;
+    }) result
         (rest_at before.full before.known line row.old row.old.words) }
     ensures room { IfOk result (λ l. IfSome l.does (λ _. before.full ≡ false)) }
     ensures plain { IfOk result (λ l. l.limit ≡ None) }
@@ -119,7 +134,12 @@ fn labelled_at<'a>(
     word: Placed<'a>,
     row: &mut TextLine<'a>,
 ) -> Result<Line<'a>, At>
-    ensures value { LineGives (λ l. record { limit = l.limit; label = option_map (λ w. w.now) l.label; know = l.know; does = l.does }) result
+    ensures value { LineGives (λ l. record {
+      limit = l.limit;
+      label = option_map (λ w. w.now) l.label;
+      know = l.know;
+      does = l.does;
+    }) result
         (labelled_at labels.now before.full before.known line (record { column = word.entry.column; word = word.entry.word.now }) row.old
         (label_of word.entry.word.now)) }
     ensures room { IfOk result (λ l. IfSome l.does (λ _. before.full ≡ false)) }
@@ -149,7 +169,12 @@ pub(crate) fn line_at<'a>(
     line: u64,
     row: &mut TextLine<'a>,
 ) -> Result<Line<'a>, At>
-    ensures value { LineGives (λ l. record { limit = l.limit; label = option_map (λ w. w.now) l.label; know = l.know; does = l.does }) result
+    ensures value { LineGives (λ l. record {
+      limit = l.limit;
+      label = option_map (λ w. w.now) l.label;
+      know = l.know;
+      does = l.does;
+    }) result
         (line_at labels.now before.begun before.full before.known line row.old row.old.words) }
     ensures room { IfOk result (λ l. IfSome l.does (λ _. before.full ≡ false)) }
     ensures limit { IfOk result (λ l. IfSome l.limit (λ n. (1 ≤ n) × (n ≤ 16))) }

@@ -1,5 +1,5 @@
 -- Where each file of a command is there and suits it, and no read fails, nothing but want of memory keeps the command from its writing.
-use Rattle.std.proofs.Common.{◌≡◌, ℕ, ◌≤◌, ◌<◌, List, Option, Some, None, Result, Ok, Err, refl, ap, ◌∙◌, subst, inl, inr, length, arith}
+use Rattle.std.proofs.Common.{◌≡◌, ℕ, ◌≤◌, ◌<◌, List, Option, Some, None, Result, Ok, Err, refl, ap, sym, ◌∙◌, subst, inl, inr, length, arith}
 use Rattle.std.specs.Prelude.{IfSome, IsSomeAnd, String}
 use Rattle.std.specs.Global.{Global}
 use Rattle.bk_outer.specs.declared.shelf.TheConstants.{FILE_LIMIT}
@@ -10,19 +10,21 @@ use Rattle.bk_image.specs.Spelling.{IsImage, spelling}
 use Rattle.bk_image.proofs.Images.{image_again}
 use Rattle.bk_text.specs.Faults as text_faults
 use Rattle.bk_check.specs.Accepted.{Accepted, IsFirstUnmet}
+use Rattle.bk_trace.specs.Grammar.{trace_of}
 use Rattle.bk_trace.specs.Reading.{trace_at}
+use Rattle.bk_trace.specs.Traces as traces
 use Rattle.bk_trace.proofs.Whole.{agrees, read_some}
 use Rattle.bk_cmd.specs.Answers.{Refuses, Fault, VerdictOn, AssemblyOf, DisassemblyOf, SaysOf, bad_at}
-use Rattle.bk_cmd.specs.Inputs.{Files, FileHolds, since}
+use Rattle.bk_cmd.specs.Inputs.{Files, FileHolds, until, since}
 use Rattle.bk_cmd.specs.Needs.{IsImageFile, IsAcceptedFile, IsTraceFile, Suits, IsThere, HasInputs, HasFiles}
 use Rattle.bk_cmd.specs.Ends.{OfCommand}
 use Rattle.bk_cmd.specs.Outcomes.{Facts, facts_of, facts_of_stop}
-use Rattle.bk_cmd.specs.Stops.{GaveNone, IsStop, IsMissingInput, IsBadInput, ImageIsRefused, bad_in}
+use Rattle.bk_cmd.specs.Stops.{GaveNone, IsStop, IsMissingInput, IsBadInput, IsOverLimit, ImageIsRefused, bad_in}
 use Rattle.bk_cmd.specs.Threads.{threads_of, OfThreads}
 use Rattle.bk_cmd.specs.Words.{Command, OfFile, Source, Generate, Replay, command_of}
 use Rattle.bk_cmd.specs.declared.outcome.Outcome.{Outcome}
 use Rattle.bk_cmd.specs.declared.outcome.Stop.{Stop}
-use Rattle.bk_cmd.specs.declared.outcome.Stop.TheVariants.{Memory, Usage, Unread, Bad as BadFile, Refused}
+use Rattle.bk_cmd.specs.declared.outcome.Stop.TheVariants.{Memory, Usage, Unread, Bad as BadFile, Refused, Limit}
 use Rattle.bk_cmd.specs.declared.outcome.TheConstants.{MEMORY}
 use Rattle.bk_cmd.specs.declared.outcome.Unread as unread
 use Rattle.bk_cmd.specs.declared.outcome.Unread.TheVariants.{Absent, Failed, TooLong}
@@ -35,11 +37,13 @@ module _ (files : Files) (name : List ℕ) (Suited : List ℕ → Type 0) (there
   told : (P : (List ℕ → Option (List ℕ)) → Type 0) → IfSome files.at P → P there.at
   told P h = subst (λ (o : Option (List ℕ → Option (List ℕ))). IfSome o P) there.tells h
 
-  suited : (Holds : List ℕ → Type 0) (h : FileHolds files name Holds) → Suited h.bytes
-  suited Holds h =
+  same-bytes : (Holds : List ℕ → Type 0) (h : FileHolds files name Holds) → there.bytes ≡ h.bytes
+  same-bytes Holds h =
       let found : there.at name ≡ Some h.bytes = told (λ at. at name ≡ Some h.bytes) h.found in
-      let same : there.bytes ≡ h.bytes = cc (there.present, found) in
-      subst Suited same there.holds
+      cc (there.present, found)
+
+  suited : (Holds : List ℕ → Type 0) (h : FileHolds files name Holds) → Suited h.bytes
+  suited Holds h = subst Suited (same-bytes Holds h) there.holds
 
   given : (failed missed : Type 0) (cause : unread.Unread) → (failed → ⊥) → GaveNone files name failed missed cause → ⊥
   given failed missed Absent whole h =
@@ -123,6 +127,31 @@ module _ (files : Files) (image trace : List ℕ) (first : IsThere files.at imag
         not-refused h.bytes at obligation
         (suited files image IsAcceptedFile first (λ bytes. VerdictOn (image_at bytes) (Refuses at obligation)) h) h.holds
 
+-- the image and the trace that were read are those that are there
+not-over : (files : Files) (image trace : List ℕ) → HasInputs files.at image trace → IsOverLimit files image trace → ⊥
+not-over files image trace has h =
+    let read = h.read in
+    let first = has.image in
+    let second = has.trace in
+    let one = same-bytes (until files read.then) image IsAcceptedFile first
+    (λ bytes. IsImage h.image × (bytes ≡ spelling h.image)) read.has_image in
+    let two = same-bytes (since files read.then) trace IsTraceFile second (λ text. trace_of text ≡ Some h.trace) read.has_trace in
+    let here : image_at first.bytes ≡ Ok first.holds.0 = image-read first.bytes first.holds.0 first.holds.1 first.holds.2 in
+    let there : image_at read.has_image.bytes ≡ Ok h.image =
+    image-read read.has_image.bytes h.image read.has_image.holds.0 read.has_image.holds.1 in
+    let limit : first.holds.0.limit ≡ h.image.limit =
+    ap (λ (p : images.Parts). p.limit) (same-ok first.holds.0 h.image (sym here ∙ ap image_at one ∙ there)) in
+    let caches : second.holds.0.config.caches ≡ h.trace.config.caches =
+    ap (λ (p : traces.Parts). p.config.caches)
+    (same-some second.holds.0 h.trace (sym second.holds.1 ∙ ap trace_of two ∙ read.has_trace.holds)) in
+    absurd (omega (arith, has.within, h.over, limit, caches))
+  where
+    same-ok : (p q : images.Parts) → ◌≡◌ {A = Result images.Parts Bad} (Ok p) (Ok q) → p ≡ q
+    same-ok p q e = cc e
+
+    same-some : (p q : traces.Parts) → Some p ≡ Some q → p ≡ q
+    same-some p q e = cc e
+
 only-memory : (files : Files) (command : Command) (failed missed : Type 0) (stop : Stop) → HasFiles files.at command
     → (failed → ⊥) → IsStop files command failed missed stop → stop ≡ Memory
 only-memory files command failed missed Memory has whole h = refl
@@ -132,7 +161,7 @@ only-memory files (OfFile question name) failed missed (Unread file cause) has w
 only-memory files (Source text) failed missed (Unread file cause) has whole h = absurd (h)
 only-memory files (Generate seed config operations) failed missed (Unread file cause) has whole h = absurd (h)
 only-memory files (Replay output image trace) failed missed (Unread file cause) has whole h =
-    absurd (inputs-given files image trace has.0 has.1 failed missed whole file cause h)
+    absurd (inputs-given files image trace has.image has.trace failed missed whole file cause h)
 only-memory files (OfFile question name) failed missed (BadFile file at column kind) has whole h =
     let says = h.1 in
     absurd (no-fault question says.bytes at column kind
@@ -140,14 +169,18 @@ only-memory files (OfFile question name) failed missed (BadFile file at column k
 only-memory files (Source text) failed missed (BadFile file at column kind) has whole h = absurd (h)
 only-memory files (Generate seed config operations) failed missed (BadFile file at column kind) has whole h = absurd (h)
 only-memory files (Replay output image trace) failed missed (BadFile file at column kind) has whole h =
-    absurd (inputs-sound files image trace has.0 has.1 failed missed whole file at column kind h)
+    absurd (inputs-sound files image trace has.image has.trace failed missed whole file at column kind h)
 only-memory files (OfFile question name) failed missed (Refused refusal) has whole h =
     absurd (no-refusal question h.bytes refusal.at refusal.obligation
     (suited files name (Suits question) has (λ bytes. SaysOf question bytes (Refuses refusal.at refusal.obligation)) h) h.holds)
 only-memory files (Source text) failed missed (Refused refusal) has whole h = absurd (cc (h.1))
 only-memory files (Generate seed config operations) failed missed (Refused refusal) has whole h = absurd (cc (h.1))
 only-memory files (Replay output image trace) failed missed (Refused refusal) has whole h =
-    absurd (image-accepted files image trace has.0 has.1 failed missed whole refusal.at refusal.obligation h)
+    absurd (image-accepted files image trace has.image has.trace failed missed whole refusal.at refusal.obligation h)
+only-memory files (OfFile question name) failed missed Limit has whole h = absurd h
+only-memory files (Source text) failed missed Limit has whole h = absurd h
+only-memory files (Generate seed config operations) failed missed Limit has whole h = absurd h
+only-memory files (Replay output image trace) failed missed Limit has whole h = absurd (not-over files image trace has h)
 
 -- so the status is that of memory
 by-memory : (files : Files) (command : Command) (failed missed : Type 0) (stop : Stop) (o : Outcome) → HasFiles files.at command
@@ -170,4 +203,4 @@ pub threads-by-memory : (files : Files) (words : List (String Global)) (image tr
 threads-by-memory files words image trace failed missed stop o is has whole stops facts =
     by-memory files (Replay Report image trace) failed missed stop o
     (subst (λ (found : Option (List ℕ × List ℕ)). IsSomeAnd found
-        (λ names. HasInputs files.at names.0 names.1)) is has) whole stops facts
+    (λ names. HasInputs files.at names.0 names.1)) is has) whole stops facts

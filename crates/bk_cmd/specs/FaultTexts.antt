@@ -3,7 +3,7 @@ use Rattle.std.specs.Prelude.{ℕ, List, [], ◌++◌, ◌==◌, codes, Option, 
 use Rattle.std.specs.Fmt.{decimal}
 use Rattle.bk_check.specs.declared.pass.Refusal.{Refusal}
 use Rattle.bk_cmd.specs.declared.outcome.Outcome.{Outcome}
-use Rattle.bk_cmd.specs.declared.outcome.TheConstants.{MEMORY, USAGE, REFUSED, MALFORMED, ABSENT, READ_FAULT, WRITE_FAULT, TOO_LONG}
+use Rattle.bk_cmd.specs.declared.outcome.TheConstants.{MEMORY, USAGE, REFUSED, MALFORMED, ABSENT, READ_FAULT, WRITE_FAULT, TOO_LONG, LIMIT}
 
 abbrev pub refused_text : Option Refusal → List ℕ
 refused_text None = codes "bedrock: refused"
@@ -28,4 +28,5 @@ fault_text o =
     else if o.status == READ_FAULT then file_text (codes "bedrock: read fault file ") o
     else if o.status == WRITE_FAULT then codes "bedrock: write fault"
     else if o.status == TOO_LONG then file_text (codes "bedrock: too long file ") o
+    else if o.status == LIMIT then codes "bedrock: limit"
     else []

@@ -65,6 +65,13 @@ HasImageFault files name fault = FileHolds files name (λ bytes. image_at bytes 
 abbrev pub HasTraceFault : Files → List ℕ → text_faults.Bad → Type 0
 HasTraceFault files name fault = FileHolds files name (λ text. trace_at text ≡ Err fault)
 
+-- Two files were read, first this image, which is accepted, and then this trace.
+pub record AreRead (files : Files) (image_name trace_name : List ℕ) (image : images.Parts) (trace : traces.Parts) : Type 0 where
+  pub then : Reads
+  pub has_image : HasImage (until files then) image_name image
+  pub accepted : Accepted image
+  pub has_trace : HasTrace (since files then) trace_name trace
+
 -- a trace is read only after an image that is accepted, and this holds of the files from then on
 pub record AfterImage (files : Files) (name : List ℕ) (Next : Files → Type 0) : Type 0 where
   pub image : images.Parts

@@ -43,9 +43,11 @@ pub record IsThere (files : Option (List ℕ → Option (List ℕ))) (name : Lis
   pub fits : length bytes ≤ FILE_LIMIT
   pub holds : Holds bytes
 
--- the image of a replay and its trace are there and suit it
-abbrev pub HasInputs : Option (List ℕ → Option (List ℕ)) → List ℕ → List ℕ → Type 0
-HasInputs files image trace = IsThere files image IsAcceptedFile × IsThere files trace IsTraceFile
+-- the image of a replay and its trace are there and suit it, and the trace has no more caches than the image's limit
+pub record HasInputs (files : Option (List ℕ → Option (List ℕ))) (image_name trace_name : List ℕ) : Type 0 where
+  pub image : IsThere files image_name IsAcceptedFile
+  pub trace : IsThere files trace_name IsTraceFile
+  pub within : trace.holds.0.config.caches ≤ image.holds.0.limit
 
 -- each file of a command is there and suits it
 abbrev pub HasFiles : Option (List ℕ → Option (List ℕ)) → Command → Type 0

@@ -9,10 +9,10 @@ use Rattle.bk_trace.specs.Faults as traces
 use Rattle.bk_trace.specs.declared.fault.Kind.TheVariants as trace_kinds
 use Rattle.bk_cmd.specs.declared.outcome.Outcome.{Outcome}
 use Rattle.bk_cmd.specs.declared.outcome.Stop.{Stop}
-use Rattle.bk_cmd.specs.declared.outcome.Stop.TheVariants.{Memory, Usage, Unread, Bad, Refused}
+use Rattle.bk_cmd.specs.declared.outcome.Stop.TheVariants.{Memory, Usage, Unread, Bad, Refused, Limit}
 use Rattle.bk_cmd.specs.declared.outcome.Unread as unread
 use Rattle.bk_cmd.specs.declared.outcome.Unread.TheVariants.{Absent, Failed, TooLong}
-use Rattle.bk_cmd.specs.declared.outcome.TheConstants.{OK, MEMORY, USAGE, REFUSED, MALFORMED, ABSENT, READ_FAULT, WRITE_FAULT, TOO_LONG}
+use Rattle.bk_cmd.specs.declared.outcome.TheConstants.{OK, MEMORY, USAGE, REFUSED, MALFORMED, ABSENT, READ_FAULT, WRITE_FAULT, TOO_LONG, LIMIT}
 
 -- all of an outcome but its events
 pub record Facts : Type 0 where
@@ -65,10 +65,11 @@ facts_of_stop (Bad file at column kind) =
       written = 0;
     }
 facts_of_stop (Refused refusal) = no_run REFUSED 0 (Some refusal)
+facts_of_stop Limit = no_run LIMIT 0 None
 
--- the statuses are 0 to 8
+-- the statuses are 0 to 8, and 10
 abbrev pub is_status : ℕ → Bool
-is_status n = nat_lt n 9
+is_status n = nat_lt n 9 || n == LIMIT
 
 -- those where the sink may have taken something, and of a replay a run may have ended
 abbrev pub is_after_write : ℕ → Bool

@@ -1,8 +1,6 @@
 -- How a replay ends, once its files are read. The policy is the relation between the views of a set and the way of a victim.
-use Rattle.std.specs.Prelude.{◌≡◌, ℕ, List, [], ◌++◌, length, true}
-use Rattle.bk_outer.specs.Reads.{Reads}
+use Rattle.std.specs.Prelude.{◌≡◌, ℕ, ◌≤◌, List, [], ◌++◌, length, true}
 use Rattle.bk_image.specs.Images as images
-use Rattle.bk_check.specs.Accepted.{Accepted}
 use Rattle.bk_trace.specs.Traces as traces
 use Rattle.bk_lce.specs.declared.line.WayView.{WayView}
 use Rattle.bk_system.specs.declared.event.Event.{Event}
@@ -17,15 +15,13 @@ use Rattle.bk_cmd.specs.declared.outcome.Outcome.{Outcome}
 use Rattle.bk_run.specs.Log.{log_of}
 use Rattle.bk_cmd.specs.declared.words.Output.{Output}
 use Rattle.bk_cmd.specs.declared.words.Output.TheVariants.{Report, LogAndReport}
-use Rattle.bk_cmd.specs.Inputs.{Files, until, since, HasImage, HasTrace}
+use Rattle.bk_cmd.specs.Inputs.{Files, AreRead}
 use Rattle.bk_cmd.specs.Writes.{Wrote, WrotePart}
 
--- Two files were read, first this image, which is accepted, and then this trace.
+-- This image and this trace were read, and the trace has no more caches than the image's limit.
 pub record AreInputs (files : Files) (image_name trace_name : List ℕ) (image : images.Parts) (trace : traces.Parts) : Type 0 where
-  pub then : Reads
-  pub has_image : HasImage (until files then) image_name image
-  pub accepted : Accepted image
-  pub has_trace : HasTrace (since files then) trace_name trace
+  pub read : AreRead files image_name trace_name image trace
+  pub within : trace.config.caches ≤ image.limit
 
 -- An image that is accepted and a trace were read, and of these something holds.
 pub record OfInputs (files : Files) (image_name trace_name : List ℕ) (Holds : images.Parts → traces.Parts → Type 0) : Type 0 where

@@ -8,12 +8,12 @@ use Rattle.bk_image.specs.Reading.{image_at}
 use Rattle.bk_text.specs.Faults as text_faults
 use Rattle.bk_trace.specs.Traces as traces
 use Rattle.bk_cmd.specs.Answers.{Answer, Due, Refuses, Fault, bad_at, VerdictOn, SaysOf, drawn_text}
-use Rattle.bk_cmd.specs.Inputs.{Files, IsUnread, FileHolds, HasImageFault, HasTraceFault, AfterImage}
+use Rattle.bk_cmd.specs.Inputs.{Files, IsUnread, FileHolds, HasImageFault, HasTraceFault, AreRead, AfterImage}
 use Rattle.bk_cmd.specs.Words.{Command, OfFile, Source, Generate, Replay}
 use Rattle.bk_cmd.specs.declared.outcome.Unread as unread
 use Rattle.bk_cmd.specs.declared.outcome.Unread.TheVariants.{Absent, Failed, TooLong}
 use Rattle.bk_cmd.specs.declared.outcome.Stop.{Stop}
-use Rattle.bk_cmd.specs.declared.outcome.Stop.TheVariants.{Memory, Usage, Unread, Bad, Refused}
+use Rattle.bk_cmd.specs.declared.outcome.Stop.TheVariants.{Memory, Usage, Unread, Bad, Refused, Limit}
 
 -- a fault of a text, in a line and a column
 abbrev pub bad_in : ℕ → ℕ → ℕ → text_faults.Bad
@@ -117,9 +117,24 @@ IsMissing files (Source text) file failed missed cause = ⊥
 IsMissing files (Generate seed config operations) file failed missed cause = ⊥
 IsMissing files (Replay output image trace) file failed missed cause = IsMissingInput files image trace file failed missed cause
 
+-- an image and a trace were read, and the trace has more caches than the image's limit
+pub record IsOverLimit (files : Files) (image_name trace_name : List ℕ) : Type 0 where
+  pub image : images.Parts
+  pub trace : traces.Parts
+  pub read : AreRead files image_name trace_name image trace
+  pub over : image.limit < trace.config.caches
+
+-- so it is of a replay
+abbrev pub IsOver : Files → Command → Type 0
+IsOver files (OfFile question name) = ⊥
+IsOver files (Source text) = ⊥
+IsOver files (Generate seed config operations) = ⊥
+IsOver files (Replay output image trace) = IsOverLimit files image trace
+
 abbrev pub IsStop : Files → Command → Type 0 → Type 0 → Stop → Type 0
 IsStop files command failed missed Memory = Unit {0}
 IsStop files command failed missed Usage = ⊥
 IsStop files command failed missed (Unread file cause) = IsMissing files command file failed missed cause
 IsStop files command failed missed (Bad file at column kind) = IsBad files command file at column kind
 IsStop files command failed missed (Refused refusal) = IsRefused files command refusal.at refusal.obligation
+IsStop files command failed missed Limit = IsOver files command

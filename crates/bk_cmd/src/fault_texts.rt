@@ -4,7 +4,7 @@ ghost use Rattle.arrayvec.specs.ArrayString.{array_string_len};
 ghost use Rattle.bk_cmd.specs.FaultTexts.{malformed_text, file_text, refused_text, fault_text};
 
 use crate::outcome::{
-    ABSENT, MALFORMED, MEMORY, Outcome, READ_FAULT, REFUSED, TOO_LONG, USAGE, WRITE_FAULT,
+    ABSENT, LIMIT, MALFORMED, MEMORY, Outcome, READ_FAULT, REFUSED, TOO_LONG, USAGE, WRITE_FAULT,
 };
 use arrayvec::ArrayString;
 use bk_check::Refusal;
@@ -113,6 +113,7 @@ pub fn fault_line(outcome: &Outcome) -> ArrayString<LINE_BYTES>
         READ_FAULT => file_line("bedrock: read fault file ", outcome),
         WRITE_FAULT => line_of("bedrock: write fault"),
         TOO_LONG => file_line("bedrock: too long file ", outcome),
+        LIMIT => line_of("bedrock: limit"),
         _ => ArrayString::new(),
     }
 }

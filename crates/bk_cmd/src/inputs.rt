@@ -150,7 +150,7 @@ fn trace_of<H: Shelf>(alloc: Global, shelf: &mut H, name: &str) -> Result<Trace,
     }
 }
 
-/// Reads the image of a replay, and then, where it is accepted, the trace.
+/// Reads the image of a replay, and then, where it is accepted, the trace, which has no more caches than the image's limit.
 pub(crate) fn inputs_of<H: Shelf>(
     alloc: Global,
     shelf: &mut H,
@@ -172,12 +172,16 @@ pub(crate) fn inputs_of<H: Shelf>(
         Ok(image) => image,
         Err(stop) => return Err(stop),
     };
-    match trace_of(alloc, shelf, trace_name) {
-        Ok(trace) => Ok(Inputs {
-            output,
-            image,
-            trace,
-        }),
-        Err(stop) => Err(stop),
+    let trace = match trace_of(alloc, shelf, trace_name) {
+        Ok(trace) => trace,
+        Err(stop) => return Err(stop),
+    };
+    if trace.config().caches > image.image().limit() {
+        return Err(Stop::Limit);
     }
+    Ok(Inputs {
+        output,
+        image,
+        trace,
+    })
 }

@@ -14,7 +14,8 @@ mod writing;
 
 pub use fault_texts::fault_line;
 pub use outcome::{
-    ABSENT, MALFORMED, MEMORY, OK, Outcome, READ_FAULT, REFUSED, TOO_LONG, USAGE, WRITE_FAULT,
+    ABSENT, LIMIT, MALFORMED, MEMORY, OK, Outcome, READ_FAULT, REFUSED, TOO_LONG, USAGE,
+    WRITE_FAULT,
 };
 pub use run::run_plain;
 pub use threads::run_threads;

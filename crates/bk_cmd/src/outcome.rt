@@ -25,6 +25,8 @@ pub const READ_FAULT: u8 = 6;
 pub const WRITE_FAULT: u8 = 7;
 /// A file, or a list in it, is over its limit.
 pub const TOO_LONG: u8 = 8;
+/// The trace of a replay has more caches than the limit of its image.
+pub const LIMIT: u8 = 10;
 
 /// How a command ended. What a status doesn't use is 0, none or empty.
 #[derive(Debug, Drop)]
@@ -81,6 +83,8 @@ pub(crate) enum Stop {
     Refused {
         refusal: Refusal,
     },
+    /// The trace has more caches than the limit of the image.
+    Limit,
 }
 
 /// Whether a fault of this kind is that a list is over its limit.
@@ -138,6 +142,7 @@ pub(crate) fn stopped(alloc: Global, stop: Stop) -> Outcome
             }
         }
         Stop::Refused { refusal } => no_run(alloc, REFUSED, 0, Some(refusal)),
+        Stop::Limit => no_run(alloc, LIMIT, 0, None),
     }
 }
 

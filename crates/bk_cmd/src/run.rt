@@ -8,14 +8,14 @@ ghost use Rattle.bk_cmd.specs.Ends.{OfCommand, EndsWhole, EndsInPart, EndsRefuse
 ghost use Rattle.bk_cmd.specs.Inputs.{seen, ReadsFirst};
 ghost use Rattle.bk_cmd.specs.Needs.{HasFiles};
 ghost use Rattle.bk_cmd.specs.Outcomes.{LeavesRest, is_status, is_after_write, is_limit};
-ghost use Rattle.bk_cmd.specs.Stops.{IsMissing};
+ghost use Rattle.bk_cmd.specs.Stops.{IsMissing, IsOver};
 ghost use Rattle.bk_cmd.specs.Words.{command_of, names_of};
 ghost use Rattle.bk_cmd.specs.declared.outcome.Unread.TheVariants as unread;
 
 use crate::answers::{answer_of, drawn};
 use crate::inputs::inputs_of;
 use crate::outcome::{
-    ABSENT, MALFORMED, MEMORY, OK, Outcome, READ_FAULT, REFUSED, Stop, TOO_LONG, USAGE,
+    ABSENT, LIMIT, MALFORMED, MEMORY, OK, Outcome, READ_FAULT, REFUSED, Stop, TOO_LONG, USAGE,
     WRITE_FAULT, stopped,
 };
 use crate::replay::replay;
@@ -30,13 +30,14 @@ use std::alloc::Global;
 /// - `verify IMAGE`: `accepted` and a line's end, where the image is accepted (`docs/OBLIGATIONS.md`);
 /// - `asm TEXT`: the bytes of the image that the text spells (`docs/ASSEMBLY.md`);
 /// - `dis IMAGE`: the canonical text of the image;
-/// - `proto NAME`: the source of the program `ei`, `msi`, `mesi` or `moesif`;
+/// - `proto NAME`: the source of the program `ei`, `msi`, `mesi` or `moesif`, or of `ei16`, `msi16`, `mesi16` or `moesif16`;
 /// - `gen SEED CACHES SETS WAYS OPS`: the canonical text of the trace that is drawn from the seed (`docs/FILES.md`);
 /// - `replay serial IMAGE TRACE`: the report of the greedy run of the image over the trace;
 /// - `replay log IMAGE TRACE`: the log of that run, and then its report.
 ///
 /// The words are judged first. Then each file is read and checked, in their order; `verify` gives its verdict, and so does a
-/// replay, before it reads its trace and makes its run; then comes the writing. What is met first is answered, by a status:
+/// replay, before it reads its trace, compares its caches with the image's limit, and makes its run; then comes the writing. What is met
+/// first is answered, by a status:
 ///
 /// - `OK`: the sink took all that is due, and a run is complete;
 /// - `MEMORY`: memory ran out, at any moment after the words;
@@ -46,7 +47,8 @@ use std::alloc::Global;
 /// - `ABSENT`: there is no such file;
 /// - `READ_FAULT`: a file could not be read;
 /// - `WRITE_FAULT`: the sink failed, and took `written` bytes of what is due;
-/// - `TOO_LONG`: a file has too many bytes, an image or a text too many instructions, or a trace too many operations.
+/// - `TOO_LONG`: a file has too many bytes, an image or a text too many instructions, or a trace too many operations;
+/// - `LIMIT`: the trace of a replay has more caches than the limit of its image.
 ///
 /// Each operation of a replay begins with the way that the victim policy answers for it. Only an image that is accepted is
 /// replayed, and its run is coherent at the opening and after each of its events (`docs/COHERENCE.md`). It comes to its end, complete,
@@ -97,6 +99,10 @@ pub fn run_plain<H: Shelf, K: Sink, F: Fn(&[WayView]) -> u8 + Copy + Send>(
     ensures within_limits { result.status ≡ MALFORMED → is_limit result.kind ≡ false }
     ensures over_limit { result.status ≡ TOO_LONG → is_limit result.kind ≡ true → OfCommand words.now (λ command.
         EndsBad (seen H.files H.reads shelf.old shelf.new) command result) }
+
+    // A trace with more caches than the image's limit.
+    ensures limit { result.status ≡ LIMIT → OfCommand words.now (λ command.
+        IsOver (seen H.files H.reads shelf.old shelf.new) command) }
 
     // A file that gave no bytes, and what the shelf counted.
     ensures absent { result.status ≡ ABSENT → OfCommand words.now (λ command.

@@ -116,6 +116,35 @@ end rested
 }
 
 #[test]
+fn a_trace_over_the_limit_is_not_replayed(rt: HostRuntime) -> Result<(), Fail> {
+    let alloc = rt.alloc();
+    let three = "config 3 2 1\n2 L 0x40\n";
+    let nine = "config 9 2 1\n8 S 0x40 7\n";
+    for (version, limit, trace, status) in [
+        (1, 0, three, OK),
+        (1, 0, nine, LIMIT),
+        (2, 2, three, LIMIT),
+        (2, 3, three, OK),
+        (2, 8, nine, LIMIT),
+        (2, 9, nine, OK),
+        (2, 16, nine, OK),
+    ] {
+        let mut image = image_named(alloc, "mesi")?;
+        for (place, byte) in [(4, version), (5, limit)] {
+            if let Some(old) = image.get_mut(place) {
+                *old = byte;
+            }
+        }
+        let mut shelf = shelf_of(alloc, &image, trace, Vec::new(alloc))?;
+        let mut sink = MemSink::make(alloc, 1_000_000, Vec::new(alloc));
+        let outcome = asked(alloc, &words(alloc)?, &mut shelf, &mut sink);
+        assert_eq!(rt; outcome.status, status, "version {version} limit {limit}");
+        assert_eq!(rt; sink.bytes().is_empty(), status == LIMIT);
+    }
+    Ok(())
+}
+
+#[test]
 fn a_loop_uses_its_budget_up(rt: HostRuntime) -> Result<(), Fail> {
     let alloc = rt.alloc();
     // The opcode is the highest byte of the word: `bi` to 0 in place of `nop`.

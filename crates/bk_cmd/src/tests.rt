@@ -249,24 +249,6 @@ fn a_reserved_field(rt: HostRuntime) -> Result<(), Fail> {
     Ok(())
 }
 
-#[test]
-fn long_numbers(rt: HostRuntime) {
-    let outcome = Outcome {
-        status: MALFORMED,
-        file: 255,
-        at: u64::MAX,
-        column: u64::MAX,
-        kind: 255,
-        refusal: None,
-        events: Vec::new(rt.alloc()),
-        written: 0,
-    };
-    assert!(rt;
-        fault_line(&outcome).as_str()
-            == "bedrock: malformed file 255 at 18446744073709551615:18446744073709551615 kind 255"
-    );
-}
-
 /// The outcome that has this status and nothing else.
 fn bare(alloc: Global, status: u8) -> Outcome {
     Outcome {
@@ -282,9 +264,21 @@ fn bare(alloc: Global, status: u8) -> Outcome {
 }
 
 #[test]
-fn want_of_memory_is_told(rt: HostRuntime) {
+fn fault_lines(rt: HostRuntime) {
     let alloc = rt.alloc();
     assert!(rt; fault_line(&bare(alloc, MEMORY)).as_str() == "bedrock: memory");
+    assert!(rt; fault_line(&bare(alloc, LIMIT)).as_str() == "bedrock: limit");
+    let long = Outcome {
+        file: 255,
+        at: u64::MAX,
+        column: u64::MAX,
+        kind: 255,
+        ..bare(alloc, MALFORMED)
+    };
+    assert!(rt;
+        fault_line(&long).as_str()
+            == "bedrock: malformed file 255 at 18446744073709551615:18446744073709551615 kind 255"
+    );
 }
 
 /// The words `verify a.bk`.

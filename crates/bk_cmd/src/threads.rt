@@ -9,13 +9,13 @@ ghost use Rattle.bk_cmd.specs.Inputs.{seen, ReadsFirst};
 ghost use Rattle.bk_cmd.specs.Needs.{HasInputs};
 ghost use Rattle.bk_cmd.specs.Outcomes.{LeavesRest, is_status, is_after_write, is_limit};
 ghost use Rattle.bk_cmd.specs.Replays.{OfInputs};
-ghost use Rattle.bk_cmd.specs.Stops.{ImageIsRefused, IsBadInput, IsMissingInput};
+ghost use Rattle.bk_cmd.specs.Stops.{ImageIsRefused, IsBadInput, IsMissingInput, IsOverLimit};
 ghost use Rattle.bk_cmd.specs.Threads.{threads_of, OfThreads, ThreadsEnd, ThreadsReported, ThreadsReportedPart};
 ghost use Rattle.bk_cmd.specs.declared.outcome.Unread.TheVariants as unread;
 
 use crate::inputs::{Inputs, inputs_of};
 use crate::outcome::{
-    ABSENT, MALFORMED, MEMORY, OK, Outcome, READ_FAULT, REFUSED, Stop, TOO_LONG, USAGE,
+    ABSENT, LIMIT, MALFORMED, MEMORY, OK, Outcome, READ_FAULT, REFUSED, Stop, TOO_LONG, USAGE,
     WRITE_FAULT, ended, stopped,
 };
 use crate::words::{Output, threads_of};
@@ -86,8 +86,8 @@ fn replay<R: Threads + Wait + Sync, K: Sink, F: Fn(&[WayView]) -> u8 + Copy + Se
 /// writes to the sink the report of their events, in one order in which the system could have made them one at a time. Each agent passes
 /// the gate before each of its turns.
 ///
-/// The words are judged first. Then the image is read and checked, and gets its verdict; then the trace is read, and the agents run; then
-/// comes the writing. What is met first is answered, by a status:
+/// The words are judged first. Then the image is read and checked, and gets its verdict; then the trace is read, its
+/// caches are compared with the image's limit, and the agents run; then comes the writing. What is met first is answered, by a status:
 ///
 /// - `OK`: the sink took all of the report, and the run is complete;
 /// - `MEMORY`: memory ran out, at any moment after the words;
@@ -97,7 +97,8 @@ fn replay<R: Threads + Wait + Sync, K: Sink, F: Fn(&[WayView]) -> u8 + Copy + Se
 /// - `ABSENT`: there is no such file;
 /// - `READ_FAULT`: a file could not be read;
 /// - `WRITE_FAULT`: the sink failed, and took `written` bytes of the report;
-/// - `TOO_LONG`: a file has too many bytes, an image too many instructions, or a trace too many operations.
+/// - `TOO_LONG`: a file has too many bytes, an image too many instructions, or a trace too many operations;
+/// - `LIMIT`: the trace has more caches than the limit of the image.
 ///
 /// Each operation begins with the way that the victim policy answers for it. Only an image that is accepted is run, and its run is coherent
 /// at the opening and after each of its events (`docs/COHERENCE.md`). It may wait, as its agents do for one another.
@@ -156,6 +157,10 @@ pub fn run_threads<
     ensures within_limits { result.status ≡ MALFORMED → is_limit result.kind ≡ false }
     ensures over_limit { result.status ≡ TOO_LONG → is_limit result.kind ≡ true → OfThreads words.now (λ image trace.
         IsBadInput (seen H.files H.reads shelf.old shelf.new) image trace result.file result.at result.column result.kind) }
+
+    // A trace with more caches than the image's limit.
+    ensures limit { result.status ≡ LIMIT → OfThreads words.now (λ image trace.
+        IsOverLimit (seen H.files H.reads shelf.old shelf.new) image trace) }
 
     // A file that gave no bytes, and what the shelf counted.
     ensures absent { result.status ≡ ABSENT → OfThreads words.now (λ image trace.

@@ -176,7 +176,11 @@ limit_again version limit total rest format =
 
 version_range : (version limit : ℕ) → IsFormat version limit → (1 ≤ version) × (version ≤ 2)
 version_range version limit format =
-    elim format [ inl first ↦ (omega (arith, first.0), omega (arith, first.0)) | inr second ↦ (omega (arith, second.0), omega (arith, second.0)) ]
+    elim format [
+      | inl first ↦ (omega (arith, first.0), omega (arith, first.0))
+      | inr second ↦
+          (omega (arith, second.0), omega (arith, second.0))
+    ]
 
 -- what a header says
 pub record IsHeading (h : Heading) : Type 0 where

@@ -8,7 +8,8 @@ pub returns-in_err-line-clause-value : goal.returns-in_err-line-clause-value
 returns-in_err-line-clause-value c =
     let p = err_from_is_err_and c.from_residual.result c.from_residual.ensures.1 in
     let heading = c.args.heading in
-    rw (p.1, p.2) (lines_end c.in_err-line.field-0.0 c.loop.lines.items c.args.total heading.instrs heading.knows c.loop.counter c.loop.least
+    rw (p.1, p.2) (lines_end c.in_err-line.field-0.0 c.loop.lines.items c.args.total heading.instrs heading.knows c.loop.counter
+    c.loop.least
     c.loop.rest.now (lines_at c.args.total heading.instrs heading.knows 0 c.args.bytes.now) c.loop-test.true c.in_err-line.ensures.value
     c.loop.invariant)
 
