@@ -25,7 +25,7 @@ use std::thread;
 pub const TURNS: usize = 64;
 
 /// How many times in a round an agent that has nothing to do takes again, before its round ends.
-pub const PATIENCE: usize = 32;
+pub const PATIENCE: usize = 128;
 
 /// How a turn ended.
 #[derive(Clone, Copy, Debug, PartialEq, Eq)]
@@ -119,7 +119,7 @@ impl Agent {
     }
 
     /// A round of the agent, on ends of channels from which nothing was taken and to which nothing was sent (`IsFresh`): turns, until it
-    /// has made 64 events, or has found 32 times that none is enabled, or can't go on. Answers whether it found at last that none is
+    /// has made 64 events, or has found 128 times that none is enabled, or can't go on. Answers whether it found at last that none is
     /// enabled.
     /// What it has done is `IsWork` (docs/THREADS.md, "A round"). It may wait, as its channels may.
     ///

@@ -14,5 +14,5 @@ invariant-loop g l = record {
   made : (l.left ≡ 64) ⊎ (1 ≤ length l.self.entries.items);
   some_left : 1 ≤ l.left;
   patient : 1 ≤ l.patience;
-  count : l.left + l.patience + l.counter ≡ 96;
+  count : l.left + l.patience + l.counter ≡ 192;
 }
