@@ -238,7 +238,7 @@ module _ (k : Shape) (core : Core) (h : Held) (x : Transaction) (world : World) 
   for-action forms.Ucblk a i p number = word-case core.got a i
   for-action forms.Ucdone a i p number =
       only (AnswersStore t (word_of h.addr) (becomes h.value) x) a (effects.done_for k core h forms.Ucdone world)
-          (stored (word_of h.addr) (becomes h.value)) i
+      (stored (word_of h.addr) (becomes h.value)) i
   for-action forms.Done a i p number = only (AnswersEvict t h.way x) a (effects.done_for k core h forms.Done world) evicted i
   for-action forms.Memrd a i p number = only (ReadsMemory x) a (effects.done_for k core h forms.Memrd world) read i
   for-action forms.Memww a i p number =

@@ -159,7 +159,7 @@ module _ (k : Shape) (later : State) (x : Option (ℕ × Transaction)) (c : ℕ)
       gated _ _ (eqb (group_of k at) (group_of k addr)) true (eqb (tag_at k at) (tag_at k addr) && eqb (word_of at) (word_of addr))
       (eqb at addr) _ _ _ (words_apart k at addr sets i h)
       (λ f g. with-rest _ _ (done (ops.UcStore at value) at (group_of k addr) (UcStore (tag_at k at) (word_of at) (becomes value)) 0
-          way refl refl
+      way refl refl
       (eqb-true _ _ f)
       ∙ (λ j. with_completion (group_of k addr) c (UcStore (eqb-true (tag_at k at) (tag_at k addr) (and_parts _ _ g).0 j)
       (eqb-true (word_of at) (word_of addr) (and_parts _ _ g).1 j) (becomes value)) 0 (world_of k later x))) refl)

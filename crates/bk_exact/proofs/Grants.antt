@@ -194,7 +194,7 @@ module _ (k : Shape) (s : State) (told : Told) (tied : Tied k s told) (v : Stage
   permits-ucdone o =
       let q = and_parts _ _ o.o16 in
       acts-still k s told tied served forms.Ucdone (AnswersStore t (word_of h.addr) (becomes h.value) x)
-          (record x { granted = true }) refl refl (
+      (record x { granted = true }) refl refl (
         ready k s told v o.o17,
         of-kind k s told served kinds.UcWr (values.kind-uc_wr h.kind q.0),
         values.mem-written x.written x.reading q.1,

@@ -122,7 +122,7 @@ module _ (k : Shape) (later : State) (told : Told) (tied : Tied k later told) (v
   pub leads-memww : goal forms.Memww
   leads-memww =
       sent-to forms.Memww (WritesWord (tag_at k h.addr) (word_of h.addr) (becomes h.value) x) (record x { written = true }) refl
-          refl refl refl
+      refl refl refl
       refl refl refl
       (leads-path _ _ refl)
 
@@ -176,7 +176,7 @@ module _ (k : Shape) (later : State) (told : Told) (tied : Tied k later told) (v
   pub leads-ucdone : goal forms.Ucdone
   leads-ucdone =
       sent-to forms.Ucdone (AnswersStore (tag_at k h.addr) (word_of h.addr) (becomes h.value) x) (record x { granted = true }) refl
-          refl refl refl
+      refl refl refl
       refl refl refl
       (leads-path _ _ refl)
 
